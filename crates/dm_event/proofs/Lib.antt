@@ -1,0 +1,6 @@
+pub mod Sites
+pub mod Backwards
+pub mod Components
+pub mod Rising
+pub mod Limits
+pub mod Bits

@@ -1,0 +1,10 @@
+pub mod Numbers
+pub mod Layout
+pub mod VectorFields
+pub mod Vectors
+pub mod Entries
+pub mod Actors
+pub mod Ascending
+pub mod Parts
+pub mod PartFields
+pub mod SchemaFields
