@@ -1,7 +1,7 @@
 //! What a database is made of.
 
 ghost use Rattle.std.specs.List.{list_all};
-ghost use Rattle.std.specs.Prelude.{◌≡◌, ◌<◌, ◌≤◌, slice_get, Some, length, find, reverse, IfOk};
+ghost use Rattle.std.specs.Prelude.{◌≡◌, ◌<◌, ◌≤◌, slice_get, Some, length, find, reverse, IfOk, IfSome};
 ghost use Rattle.dm_event.specs.Layout.{is_layout, within_limits, is_between, fits_weights, fits_range, opening_value, part_of, holds_key};
 
 use crate::{Key, NoMemory, Part, SiteNo, Value};
@@ -109,7 +109,8 @@ impl Schema {
 
     /// The key's partition, and None for a key past the last partition.
     pub fn part_of(&self, key: Key) -> Option<Part>
-        ensures { result ≡ part_of self.now key }
+        ensures exact { result ≡ part_of self.now key }
+        ensures inside { IfSome result (λ part. part < length self.now.masters) }
     {
         if u64::from(key) < self.masters.len() as u64 * u64::from(self.width) {
             Some((key / self.width) as Part)

@@ -1,0 +1,6 @@
+use Rattle.std.proofs.Common.{◌≡◌, drop}
+use Rattle.dm_model.specs.Values.{written}
+use Rattle.dm_body.proofs.writes.written.Given as goal
+
+abbrev pub invariant-loop-pair : goal.invariant-loop-pair
+invariant-loop-pair l = written (drop l.pair-index l.writes) l.key ≡ written l.writes l.key

@@ -1,0 +1,180 @@
+//! The history so far, as the plain list of its steps.
+
+ghost use Rattle.std.specs.Prelude.{◌≡◌, ◌≤◌, ◌++◌, ◌∷◌, [], true, None, Some, length, IfOk, OnOk, OnErr, MatchResult, option_copied};
+ghost use Rattle.dm_core.specs.Ledger.{past};
+ghost use Rattle.dm_model.specs.Acts.{entry_at};
+ghost use Rattle.dm_model.specs.Allowed.{Allowed, refusal};
+ghost use Rattle.dm_model.specs.Attempts.{attempt};
+ghost use Rattle.dm_model.specs.Legal.{Legal};
+ghost use Rattle.dm_model.specs.OneMaster.{OneMaster};
+ghost use Rattle.dm_model.specs.Ordered.{Ordered};
+ghost use Rattle.dm_model.specs.Outcomes.{said_due};
+ghost use Rattle.dm_model.specs.Progress.{full, site_vector};
+ghost use Rattle.dm_model.specs.SessionUp.{SessionUp};
+ghost use Rattle.dm_model.specs.Sessions.{session_vector};
+ghost use Rattle.dm_model.specs.Snapshot.{Snapshot};
+ghost use Rattle.dm_model.specs.Values.{value};
+ghost use Rattle.dm_plain.specs.Judging.{is_judged};
+
+use dm_event::{Attempt, Entry, Key, NoMemory, Said, Schema, SiteNo, Step, Value, Vector, Why};
+use std::alloc::Global;
+use std::marker::Model;
+
+/// The history so far, each step of which was allowed by those before it.
+#[derive(Drop)]
+pub struct Book {
+    schema: Schema,
+    items: Vec<u32>,
+    steps: Vec<Step>,
+}
+
+impl Model for Book {
+    ghost use Rattle.dm_core.specs.Ledger.{Ledger};
+
+    ghost Value = { Ledger };
+
+    ghost use Rattle.dm_core.specs.Books.{ledger_of, IsLegal};
+
+    ghost view = { ledger_of };
+
+    ghost invariant = { IsLegal };
+}
+
+impl Book {
+    /// An empty history. `items` has the number of scripted items of each of the 32 sessions, 0 where
+    /// there is no script.
+    pub fn new(alloc: Global, schema: &Schema, items: &[u32]) -> Result<Book, NoMemory>
+        requires { length items.now ≡ 32 }
+        ensures schema { IfOk result (λ book. book.layout ≡ schema.now) }
+        ensures items { IfOk result (λ book. book.items ≡ items.now) }
+        ensures empty { IfOk result (λ book. book.steps ≡ []) }
+    {
+        Ok(Book {
+            schema: schema.try_clone()?,
+            items: Vec::from_slice(alloc, items)?,
+            steps: Vec::new(alloc),
+        })
+    }
+
+    /// The history, the earliest step first.
+    pub fn steps(&self) -> &[Step]
+        ensures same { result.now ≡ self.now.steps }
+        ensures legal { Legal self.now.layout result.now }
+        ensures snapshot { Snapshot self.now.layout result.now }
+        ensures ordered { Ordered result.now }
+        ensures session_up { SessionUp self.now.layout result.now }
+        ensures one_master { OneMaster self.now.layout result.now }
+    {
+        &self.steps
+    }
+
+    /// The history, the earliest step first.
+    pub fn into_steps(self) -> Vec<Step>
+        ensures same { result.items ≡ self.steps }
+        ensures legal { Legal self.layout result.items }
+        ensures snapshot { Snapshot self.layout result.items }
+        ensures ordered { Ordered result.items }
+        ensures session_up { SessionUp self.layout result.items }
+        ensures one_master { OneMaster self.layout result.items }
+    {
+        let Book {
+            schema: _,
+            items: _,
+            steps,
+        } = self;
+        steps
+    }
+
+    pub fn schema(&self) -> &Schema
+        ensures { result.now ≡ self.now.layout }
+    {
+        &self.schema
+    }
+
+    /// The key's value at the vector.
+    pub fn value(&self, key: Key, at: &Vector) -> Value
+        ensures { result ≡ value self.now.layout (past self.now) key at.now }
+    {
+        dm_plain::value(&self.schema, &self.steps, key, at)
+    }
+
+    /// The number of committed update transactions of each origin.
+    pub fn full(&self) -> Vector
+        ensures { result ≡ full self.now.layout.sites (past self.now) }
+    {
+        dm_plain::full(&self.schema, &self.steps)
+    }
+
+    /// The site's vector.
+    pub fn vector(&self, site: SiteNo) -> Vector
+        ensures { result ≡ site_vector self.now.layout.sites (past self.now) site }
+    {
+        dm_plain::site_vector(&self.schema, &self.steps, site)
+    }
+
+    /// What the session was answered, as a vector: the least at which it may begin.
+    pub fn session_vector(&self, session: u32) -> Vector
+        ensures { result ≡ session_vector self.now.layout.sites (past self.now) session }
+    {
+        dm_plain::session_vector(&self.schema, &self.steps, session)
+    }
+
+    /// The last attempt at the session's current item.
+    pub fn attempt(&self, session: u32) -> Attempt
+        ensures { result ≡ attempt session (past self.now) }
+    {
+        dm_plain::attempt(&self.steps, session)
+    }
+
+    /// The committed update transaction with this origin and number.
+    pub fn entry(&self, origin: SiteNo, seq: u64) -> Option<&Entry>
+        ensures { option_copied result ≡ entry_at origin seq (past self.now) }
+    {
+        dm_plain::entry_at(&self.steps, origin, seq)
+    }
+
+    /// The outcome that is due for the session.
+    pub fn said_for(&self, session: u32) -> Option<Said>
+        ensures { result ≡ said_due self.now.layout (past self.now) session }
+    {
+        dm_plain::said_due(&self.schema, &self.steps, session)
+    }
+
+    /// Whether the step may follow the history, and why not: the first rule that it breaks. So far it
+    /// judges a Begin, a Commit, a Reply, and a Route by hand.
+    pub fn enabled(&self, step: &Step) -> Result<(), Why>
+        requires { is_judged step.now ≡ true }
+        ensures { MatchResult result (λ done. refusal self.now.layout (past self.now) step.now ≡ None) (λ why. refusal self.now.layout (past self.now) step.now ≡ Some why) }
+    {
+        match dm_plain::refusal(&self.schema, &self.steps, step) {
+            None => Ok(()),
+            Some(why) => Err(why),
+        }
+    }
+
+    /// Makes the room that pushing the step needs.
+    pub fn reserve(&mut self, step: &Step) -> Result<(), NoMemory>
+        requires { Allowed self.old.layout (past self.old) step.now }
+        ensures room { OnOk result (1 ≤ self.new.room) }
+        ensures history { self.new.steps ≡ self.old.steps }
+        ensures schema { self.new.layout ≡ self.old.layout }
+        ensures items { self.new.items ≡ self.old.items }
+    {
+        self.steps.reserve(1)?;
+        Ok(())
+    }
+
+    /// Adds the step to the history.
+    pub fn push(&mut self, step: Step)
+        requires allowed { Allowed self.old.layout (past self.old) step }
+        requires room { 1 ≤ self.old.room }
+        ensures pushed { self.new.steps ≡ self.old.steps ++ step ∷ [] }
+        ensures schema { self.new.layout ≡ self.old.layout }
+        ensures items { self.new.items ≡ self.old.items }
+    {
+        match self.steps.push(step) {
+            Ok(()) => {}
+            Err(_) => unreachable!(),
+        }
+    }
+}

@@ -1,0 +1,4 @@
+pub mod Faults
+pub mod Fetching
+pub mod Putting
+pub mod InMemory

@@ -1,0 +1,14 @@
+//! Where the bytes of a run come from and go to.
+#![tactic(auto)]
+
+mod host;
+mod memory;
+mod outside;
+#[cfg(test)]
+mod tests;
+mod writing;
+
+pub use host::{FileSource, StdoutSink};
+pub use memory::{MemSink, MemSource};
+pub use outside::{Fetched, Put, Sink, Source};
+pub use writing::{Written, write_all};

@@ -1,0 +1,137 @@
+-- In every legal past a site that is up and lacks an entry may take one.
+use Rattle.std.proofs.Common.{ℕ, ◌+◌, ◌<◌, ◌≤◌, ◌≡◌, ◌≢◌, true, false, not, ◌==◌, nat_le, nat_lt, ◌&&◌, List, [], ◌∷◌, ◌++◌, Option, Some, None, refl, ap, ◌∙◌, subst, arith, inl, inr, ◌⊎◌}
+use Rattle.std.proofs.lemmas.Bool.{cases_eq, eq-eqb, ne_eqb, cond-true, and_parts, and_from, and_right, leb-true, le-ltb, ltb-true, ltb-false, not_from_false}
+use Rattle.std.specs.List.{AllByRecursion as Each}
+use Rattle.std.specs.Prelude.{find, option_map, option_and_then, option_to_list, filter_map, is_some}
+use Rattle.dm_event.proofs.Sites.{find_nothing}
+use Rattle.dm_event.specs.Layout.{Layout}
+use Rattle.dm_event.specs.Vectors.{at}
+use Rattle.dm_event.specs.declared.step.Entry.{Entry}
+use Rattle.dm_event.specs.declared.step.Found.TheVariants.{Kept}
+use Rattle.dm_event.specs.declared.step.Pending.{Pending}
+use Rattle.dm_event.specs.declared.step.Pending.TheVariants as pending
+use Rattle.dm_event.specs.declared.step.Step.{Step}
+use Rattle.dm_event.specs.declared.step.Step.TheVariants.{Commit, Refresh, Restart}
+use Rattle.dm_event.specs.declared.why.Why.TheVariants as why
+use Rattle.dm_model.proofs.ClausesHold.{all_hold, holds_true, first_none, holds_none}
+use Rattle.dm_model.proofs.ListFacts.{find_none, found_holds}
+use Rattle.dm_model.proofs.Numbering.{Numbered, count_at, count_own, count_other, count_more}
+use Rattle.dm_model.proofs.NumbersKept.{InDoubt}
+use Rattle.dm_model.proofs.NumbersSound.{SoundPast, sound_past, commit_says}
+use Rattle.dm_model.proofs.SessionsRise.{entry_more}
+use Rattle.dm_model.proofs.VectorFacts.{at_by}
+use Rattle.dm_model.specs.Acts.{entries, acts, entry_of, entry_at}
+use Rattle.dm_model.specs.Allowed.{Allowed, clauses, next_entry, missing_for}
+use Rattle.dm_model.specs.Clauses.{holds, none_of}
+use Rattle.dm_model.specs.Doubts.{step_of, is_down, pending_at}
+use Rattle.dm_model.specs.Legal.{LegalPast}
+use Rattle.dm_model.specs.Progress.{reached, site_vector, entry_count}
+use Rattle.dm_model.specs.Shape.{is_site, is_shaped}
+
+-- each entry is of a site, and began within the entries before it
+abbrev pub Grounded : Layout → List Entry → Type 0
+Grounded layout [] = Unit {0}
+Grounded layout (e ∷ es) = (is_site layout e.origin ≡ true) × ((j : ℕ) → at e.begin j ≤ count_at j es) × Grounded layout es
+
+kept_grounded : (layout : Layout) (past : List Step) (site : ℕ) (o : Option Pending) → SoundPast layout past → is_site layout site ≡ true → InDoubt layout.sites (entries past) (reached site past) site o → Grounded layout (entries past)
+    → Grounded layout (filter_map entry_of (option_to_list (option_map (step_of site) o) ++ acts past))
+kept_grounded layout past site None n i d g = g
+kept_grounded layout past site (Some (pending.Release part epoch to v)) n i d g = g
+kept_grounded layout past site (Some (pending.Grant part epoch v)) n i d g = g
+kept_grounded layout past site (Some (pending.Commit e)) n i d g = (
+  ap (λ (x : ℕ). is_site layout x) d.0 ∙ i,
+  (λ j. (let a = d.2.below j in let b = (n.closed site).counted j in omega arith)),
+  g,
+)
+
+grounded_step : (layout : Layout) (past : List Step) (s : Step) → SoundPast layout past → Allowed layout past s → Grounded layout (entries past) → Grounded layout (entries (s ∷ past))
+grounded_step layout past (Commit e) n h g =
+    let c = all_hold (holds _ why.Shape ∷ clauses layout past (Commit e)) h in
+    let f = commit_says layout past n e c.1 in (
+      (and_parts (is_site layout e.origin) _ (and_parts _ _ (holds_true _ _ c.0)).1).0,
+      (λ j. (let a = f.2.below j in let b = (n.closed e.origin).counted j in omega arith)),
+      g,
+    )
+grounded_step layout past (Restart site vector Kept) n h g =
+    let c = all_hold (holds _ why.Shape ∷ clauses layout past (Restart site vector Kept)) h in
+    kept_grounded layout past site (pending_at site past) n (and_parts (is_site layout site) _ (holds_true _ _ c.0)).0 (n.in_doubt site (holds_true _ _ c.1.0)) g
+grounded_step layout past other n h g = g
+
+pub grounded_past : (layout : Layout) (past : List Step) → LegalPast layout past → Grounded layout (entries past)
+grounded_past layout [] h = tt
+grounded_past layout (s ∷ past) h = grounded_step layout past s (sound_past layout past h.0) h.1 (grounded_past layout past h.0)
+
+-- what holds of each entry's origin holds of each origin that has entries
+some_origin : (P : ℕ → Type 0) (es : List Entry) (k : ℕ) → Each (λ d. P d.origin) es → (count_at k es ≡ 0) ⊎ P k
+some_origin P [] k h = inl refl
+some_origin P (e ∷ es) k h = elim (cases_eq e.origin k) [ inl p ↦ inr (subst P p h.0) | inr m ↦ elim (some_origin P es k h.1) [ inl q ↦ inl (count_other e es k m ∙ q) | inr q ↦ inr q ] ]
+
+-- the next entry that a site which has f may take
+pub record Next (layout : Layout) (es : List Entry) (f : ℕ → ℕ) : Type 0 where
+  pub entry : Entry
+  pub site : is_site layout entry.origin ≡ true
+  pub found : find (λ d. (d.origin == entry.origin) && (d.seq == f entry.origin + 1)) es ≡ Some entry
+  pub lacks : f entry.origin < count_at entry.origin es
+  pub below : (j : ℕ) → at entry.begin j ≤ f j
+
+lagging : (layout : Layout) (es : List Entry) (f : ℕ → ℕ) → Numbered es → Grounded layout es → (j : ℕ) → f j < count_at j es → Next layout es f
+lagging layout [] f n g j h = absurd (omega arith)
+lagging layout (e ∷ es) f n g j h = by (λ k l. lagging layout es f n.2 g.2 k l) (find (λ d. nat_lt (f d.origin) (count_at d.origin es)) es) refl
+  where
+    later : Next layout es f → Next layout (e ∷ es) f
+    later x = record {
+      entry = x.entry;
+      site = x.site;
+      found = entry_more es e n x.entry.origin (f x.entry.origin + 1) x.entry x.found;
+      lacks = (let a = x.lacks in let b = count_more e es x.entry.origin in omega arith);
+      below = x.below;
+    }
+
+    at_found : (xs : List Entry) (d : Entry) → find (λ d. nat_lt (f d.origin) (count_at d.origin es)) xs ≡ Some d → nat_lt (f d.origin) (count_at d.origin es) ≡ true
+    at_found xs d q = found_holds (λ d. nat_lt (f d.origin) (count_at d.origin es)) xs d q
+
+    by : ((k : ℕ) → f k < count_at k es → Next layout es f) → (o : Option Entry) → find (λ d. nat_lt (f d.origin) (count_at d.origin es)) es ≡ o → Next layout (e ∷ es) f
+    by rest (Some d) q = later (rest d.origin (ltb-true (f d.origin) (count_at d.origin es) (at_found es d q)))
+    by rest None q =
+        let all : (k : ℕ) → count_at k es ≤ f k = λ k. elim (some_origin (λ o. nat_lt (f o) (count_at o es) ≡ false) es k (find_none (λ d. nat_lt (f d.origin) (count_at d.origin es)) es q)) [
+          | inl z ↦ omega (arith, z)
+          | inr z ↦ ltb-false (f k) (count_at k es) z
+        ] in
+        let mine : e.origin ≡ j = elim (cases_eq e.origin j) [ inl p ↦ p | inr m ↦ absurd (let a = count_other e es j m in let b = all j in omega arith) ] in
+        let top : f e.origin ≡ count_at e.origin es = (let a = count_own e es j mine in let b = all j in let c = ap f mine in let d = ap (λ (x : ℕ). count_at x es) mine in omega arith) in
+        record {
+          entry = e;
+          site = g.0;
+          found = cond-true ((e.origin == e.origin) && (e.seq == f e.origin + 1)) _ _ (and_from _ _ (eq-eqb e.origin e.origin refl) (eq-eqb e.seq (f e.origin + 1) (omega (arith, n.0, top))));
+          lacks = (let a = count_own e es e.origin refl in omega arith);
+          below = λ k. (let a = g.1 k in let b = all k in omega arith);
+        }
+
+-- a site that is up and lacks an entry may take one
+pub may_refresh : (layout : Layout) (past : List Step) → LegalPast layout past → (i : ℕ) → is_site layout i ≡ true → is_down i past ≡ false → (j : ℕ) → reached i past j < entry_count j past
+    → (o : ℕ) × Allowed layout past (Refresh i o)
+may_refresh layout past h i is up j l =
+    let n = sound_past layout past h in
+    let x = lagging layout (entries past) (reached i past) n.numbered (grounded_past layout past h) j l in
+    let o : ℕ = x.entry.origin in
+    let range = and_parts (nat_le 1 o) (nat_le o layout.sites) x.site in
+    let here : at (site_vector layout.sites past i) o ≡ reached i past o = at_by layout.sites (reached i past) o (leb-true 1 o range.0) (leb-true o layout.sites range.1) in
+    let ne : i ≢ o = λ p. absurd (let a = n.own i in let b = x.lacks in let c = ap (λ (k : ℕ). reached i past k) p in let d = ap (λ (k : ℕ). count_at k (entries past)) p in omega arith) in
+    let next : next_entry layout past i o ≡ Some x.entry = ap (λ (k : ℕ). entry_at o (k + 1) past) here ∙ x.found in
+    let none : missing_for layout.sites (site_vector layout.sites past i) x.entry ≡ None = find_nothing (λ k. not (k == o) && nat_lt (at (site_vector layout.sites past i) k) (at x.entry.begin k)) 1 layout.sites
+    (λ k a b. and_right (not (k == o)) _ (le-ltb (at (site_vector layout.sites past i) k) (at x.entry.begin k) (let e = at_by layout.sites (reached i past) k a (omega arith) in let f = x.below k in omega arith))) in (
+      o,
+      first_none (holds (is_shaped layout (Refresh i o)) why.Shape ∷ clauses layout past (Refresh i o)) (
+        holds_none _ _ (and_from _ _ is x.site),
+        (
+          holds_none _ _ (not_from_false (i == o) (ne_eqb i o ne)),
+          (
+            holds_none _ _ (not_from_false (is_down i past) up),
+            (
+              holds_none _ _ (ap is_some next),
+              (ap (λ (q : Option Entry). none_of (option_and_then (missing_for layout.sites (site_vector layout.sites past i)) q) why.Behind) next ∙ ap (λ (q : Option ℕ). none_of q why.Behind) none, tt),
+            ),
+          ),
+        ),
+      ),
+    )

@@ -1,0 +1,126 @@
+-- What a further step adds to the entries.
+use Rattle.std.proofs.Common.{ℕ, zero, suc, ◌+◌, ◌≤◌, ◌<◌, ◌≡◌, Bool, true, false, cond, List, [], ◌∷◌, ◌++◌, Option, Some, None, length, take, get_or, refl, ap, sym, ◌∙◌, arith, subst}
+use Rattle.std.specs.Prelude.{ℤ, reverse, find, filter_map, option_map, option_to_list, ◌==◌, ◌&&◌}
+use Rattle.std.specs.Option.{option_or}
+use Rattle.std.proofs.lemmas.List.Elements.{filter_map-append}
+use Rattle.dm_event.specs.declared.placing.Placing.{Placing}
+use Rattle.dm_event.specs.declared.step.Entry.{Entry}
+use Rattle.dm_event.specs.declared.step.Found.{Found}
+use Rattle.dm_event.specs.declared.step.Found.TheVariants.{Clean, Kept, Lost}
+use Rattle.dm_event.specs.declared.step.Pending.{Pending}
+use Rattle.dm_event.specs.declared.step.Pending.TheVariants as pending
+use Rattle.dm_event.specs.declared.step.Step.{Step}
+use Rattle.dm_event.specs.declared.step.Step.TheVariants.{Route, Reply, Ask, Settle, Begin, Moved, Commit, End, Fail, Refresh, Release, Grant, Doubt, Restart}
+use Rattle.dm_model.specs.Acts.{acts, acts_of, entry_of, entries, entry_at}
+use Rattle.dm_model.specs.Closed.{is_inside}
+use Rattle.dm_model.specs.Doubts.{step_of, pending_at}
+use Rattle.dm_model.specs.Placings.{placed_by, after_acts}
+use Rattle.dm_model.specs.Progress.{entry_count}
+use Rattle.dm_model.specs.Values.{newest, written}
+use Rattle.dm_model.specs.Words.{count_of}
+use Rattle.dm_plain.specs.Adding.{kept_entry, of_origin, numbered, written_by, kept_placing}
+use Rattle.dm_plain.proofs.Past.{past_more}
+
+by_pending : (site : ℕ) (o : Option Pending) → option_to_list (kept_entry Kept o) ≡ filter_map entry_of (option_to_list (option_map (step_of site) o))
+by_pending site None = refl
+by_pending site (Some (pending.Commit e)) = refl
+by_pending site (Some (pending.Release part epoch to vector)) = refl
+by_pending site (Some (pending.Grant part epoch vector)) = refl
+
+by_found : (site : ℕ) (vector : List ℕ) (found : Found) (past : List Step) → option_to_list (kept_entry found (pending_at site past)) ≡ filter_map entry_of (acts_of (Restart site vector found) past)
+by_found site vector Kept past = by_pending site (pending_at site past)
+by_found site vector Clean past = refl
+by_found site vector Lost past = refl
+
+-- a Restart that keeps a commit adds its entry
+pub entry_kept : (s : Step) (past : List Step) (site : ℕ) (vector : List ℕ) (found : Found) → s ≡ Restart site vector found
+    → option_to_list (kept_entry found (pending_at site past)) ≡ filter_map entry_of (acts_of s past)
+entry_kept s past site vector found e = by_found site vector found past ∙ ap (λ (t : Step). filter_map entry_of (acts_of t past)) (sym e)
+
+placed_pending : (p site : ℕ) (o : Option Pending) (now : Placing) → kept_placing p site Kept o now ≡ after_acts p (option_to_list (option_map (step_of site) o)) now
+placed_pending p site None now = refl
+placed_pending p site (Some (pending.Commit e)) now = refl
+placed_pending p site (Some (pending.Release part epoch to vector)) now = refl
+placed_pending p site (Some (pending.Grant part epoch vector)) now = refl
+
+placed_found : (p site : ℕ) (vector : List ℕ) (found : Found) (past : List Step) (now : Placing) → kept_placing p site found (pending_at site past) now ≡ placed_by p (Restart site vector found) past now
+placed_found p site vector Kept past now = placed_pending p site (pending_at site past) now
+placed_found p site vector Clean past now = refl
+placed_found p site vector Lost past now = refl
+
+-- a Restart that keeps a release or a grant moves its partition
+pub placing_kept : (p : ℕ) (s : Step) (past : List Step) (now : Placing) (site : ℕ) (vector : List ℕ) (found : Found) → s ≡ Restart site vector found
+    → kept_placing p site found (pending_at site past) now ≡ placed_by p s past now
+placing_kept p s past now site vector found e = placed_found p site vector found past now ∙ ap (λ (t : Step). placed_by p t past now) (sym e)
+
+entries_more : (s : Step) (past : List Step) (o : Option Entry) → option_to_list o ≡ filter_map entry_of (acts_of s past) → entries (s ∷ past) ≡ option_to_list o ++ entries past
+entries_more s past o e = filter_map-append entry_of (acts_of s past) (acts past) ∙ ap (λ (l : List Entry). l ++ entries past) (sym e)
+
+count_one : (j : ℕ) (o : Option Entry) (es : List Entry) → count_of (λ e. e.origin == j) (option_to_list o ++ es) ≡ count_of (λ e. e.origin == j) es + of_origin j o
+count_one j None es = omega arith
+count_one j (Some e) es = by_test (e.origin == j)
+  where
+    by_test : (b : Bool) → cond b (suc (count_of (λ d. d.origin == j) es)) (count_of (λ d. d.origin == j) es) ≡ count_of (λ d. d.origin == j) es + cond b 1 0
+    by_test true = omega arith
+    by_test false = omega arith
+
+find_one : (j n : ℕ) (o : Option Entry) (es : List Entry) → find (λ e. (e.origin == j) && (e.seq == n)) (option_to_list o ++ es) ≡ option_or (numbered j n o) (find (λ e. (e.origin == j) && (e.seq == n)) es)
+find_one j n None es = refl
+find_one j n (Some e) es = by_test ((e.origin == j) && (e.seq == n))
+  where
+    rest : Option Entry
+    rest = find (λ d. (d.origin == j) && (d.seq == n)) es
+
+    by_test : (b : Bool) → cond b (Some e) (find (λ d. (d.origin == j) && (d.seq == n)) es) ≡ option_or (cond b (Some e) None) (find (λ d. (d.origin == j) && (d.seq == n)) es)
+    by_test true = refl
+    by_test false = refl
+
+newest_one : (key : ℕ) (v : List ℕ) (o : Option Entry) (es : List Entry) → newest (option_to_list o ++ es) key v ≡ option_or (written_by key v o) (newest es key v)
+newest_one key v None es = refl
+newest_one key v (Some e) es = refl
+
+module _ (steps : List Step) (i : ℕ) (s : Step) (o : Option Entry) (h : i < length steps) (e : s ≡ get_or steps i s) (f : option_to_list o ≡ filter_map entry_of (acts_of s (reverse (take i steps)))) where
+  after : entries (reverse (take (i + 1) steps)) ≡ option_to_list o ++ entries (reverse (take i steps))
+  after = ap entries (past_more steps i s h e) ∙ entries_more s (reverse (take i steps)) o f
+
+  pub count_after : (j : ℕ) → entry_count j (reverse (take (i + 1) steps)) ≡ entry_count j (reverse (take i steps)) + of_origin j o
+  count_after j = ap (λ (es : List Entry). count_of (λ d. d.origin == j) es) after ∙ count_one j o (entries (reverse (take i steps)))
+
+  pub find_after : (j n : ℕ) → entry_at j n (reverse (take (i + 1) steps)) ≡ option_or (numbered j n o) (entry_at j n (reverse (take i steps)))
+  find_after j n = ap (λ (es : List Entry). find (λ d. (d.origin == j) && (d.seq == n)) es) after ∙ find_one j n o (entries (reverse (take i steps)))
+
+  pub newest_after : (key : ℕ) (v : List ℕ) → newest (entries (reverse (take (i + 1) steps))) key v ≡ option_or (written_by key v o) (newest (entries (reverse (take i steps))) key v)
+  newest_after key v = ap (λ (es : List Entry). newest es key v) after ∙ newest_one key v o (entries (reverse (take i steps)))
+
+pub of_origin_few : (j : ℕ) (o : Option Entry) → of_origin j o ≤ 1
+of_origin_few j None = omega arith
+of_origin_few j (Some e) = elim (e.origin == j) as (λ b. cond b 1 0 ≤ 1) [ true ↦ omega arith | false ↦ omega arith ]
+
+few_more : (j : ℕ) (o : Option Entry) (es : List Entry) (n : ℕ) → count_of (λ e. e.origin == j) es ≤ n → count_of (λ e. e.origin == j) (option_to_list o ++ es) ≤ suc n
+few_more j o es n h = let one = count_one j o es in let two = of_origin_few j o in omega (arith, one, two)
+
+few_kept : (j site : ℕ) (o : Option Pending) (es : List Entry) (n : ℕ) → count_of (λ e. e.origin == j) es ≤ n
+    → count_of (λ e. e.origin == j) (filter_map entry_of (option_to_list (option_map (step_of site) o)) ++ es) ≤ suc n
+few_kept j site o es n h = subst (λ (l : List Entry). count_of (λ e. e.origin == j) (l ++ es) ≤ suc n) (by_pending site o) (few_more j (kept_entry Kept o) es n h)
+
+-- there are no more entries than steps
+pub few_entries : (j : ℕ) (past : List Step) → entry_count j past ≤ length past
+few_entries j [] = omega arith
+few_entries j (Commit e ∷ past) = few_more j (Some e) (entries past) (length past) (few_entries j past)
+few_entries j (Restart site vector Kept ∷ past) =
+    subst (λ (l : List Entry). count_of (λ e. e.origin == j) l ≤ suc (length past)) (sym (filter_map-append entry_of (acts_of (Restart site vector Kept) past) (acts past)))
+    (few_kept j site (pending_at site past) (entries past) (length past) (few_entries j past))
+few_entries j (Restart site vector Clean ∷ past) = let h = few_entries j past in omega (arith, h)
+few_entries j (Restart site vector Lost ∷ past) = let h = few_entries j past in omega (arith, h)
+few_entries j (Route txn want min site choice ∷ past) = let h = few_entries j past in omega (arith, h)
+few_entries j (Reply session number said ∷ past) = let h = few_entries j past in omega (arith, h)
+few_entries j (Ask part epoch to txn ∷ past) = let h = few_entries j past in omega (arith, h)
+few_entries j (Settle part epoch ∷ past) = let h = few_entries j past in omega (arith, h)
+few_entries j (Begin site txn begin ∷ past) = let h = few_entries j past in omega (arith, h)
+few_entries j (Moved site txn ∷ past) = let h = few_entries j past in omega (arith, h)
+few_entries j (End site txn ops reads ∷ past) = let h = few_entries j past in omega (arith, h)
+few_entries j (Fail site txn cause ∷ past) = let h = few_entries j past in omega (arith, h)
+few_entries j (Refresh site origin ∷ past) = let h = few_entries j past in omega (arith, h)
+few_entries j (Release site part epoch to vector ∷ past) = let h = few_entries j past in omega (arith, h)
+few_entries j (Grant site part epoch vector ∷ past) = let h = few_entries j past in omega (arith, h)
+few_entries j (Doubt site p ∷ past) = let h = few_entries j past in omega (arith, h)

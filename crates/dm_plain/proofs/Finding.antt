@@ -1,0 +1,72 @@
+-- Searches from the front on.
+use Rattle.std.proofs.Common.{ℕ, suc, ◌+◌, ◌<◌, ◌≡◌, Bool, true, false, cond, List, [], ◌∷◌, ◌++◌, Option, Some, None, length, drop, get_or, refl, ap, sym, ◌∙◌, add-one}
+use Rattle.std.specs.Prelude.{reverse, find, filter, filter_map, option_map, option_and_then}
+use Rattle.std.specs.List.{cons_option}
+use Rattle.std.specs.Option.{option_or}
+use Rattle.std.proofs.Math.Seq.{drop-cons}
+use Rattle.std.proofs.lemmas.Bool.{cond-true, cond-false}
+use Rattle.std.proofs.lemmas.List.{reverse-append}
+use Rattle.std.proofs.lemmas.List.Elements.{filter_map-append}
+use Rattle.dm_event.specs.declared.step.Step.{Step}
+use Rattle.dm_event.specs.declared.step.TxnId.{TxnId}
+use Rattle.dm_model.specs.Allowed.{common_key, holder_among, holder}
+use Rattle.dm_model.specs.Attempts.{declared}
+use Rattle.dm_model.specs.Runs.{runs, begun_at, running}
+use Rattle.dm_plain.specs.Adding.{held_by, holds_one}
+
+-- the rest of a list begins with its element
+pub rest_is : {X : Type 0} (xs : List X) (i : ℕ) (x : X) → i < length xs → x ≡ get_or xs i x → drop i xs ≡ x ∷ drop (i + 1) xs
+rest_is {X = X} xs i x h e = drop-cons xs i x h ∙ ap (λ (y : X). y ∷ drop (suc i) xs) (sym e) ∙ ap (λ (n : ℕ). x ∷ drop n xs) (sym (add-one i))
+
+-- an element that doesn't pass is passed over
+pub find_on : {X : Type 0} (p : X → Bool) (xs : List X) (i : ℕ) (x : X) → i < length xs → x ≡ get_or xs i x → p x ≡ false → find p (drop (i + 1) xs) ≡ find p (drop i xs)
+find_on {X = X} p xs i x h e f = sym (ap (λ (l : List X). find p l) (rest_is xs i x h e) ∙ cond-false (p x) _ _ f)
+
+pub find_here : {X : Type 0} (p : X → Bool) (xs : List X) (i : ℕ) (x : X) → i < length xs → x ≡ get_or xs i x → p x ≡ true → find p (drop i xs) ≡ Some x
+find_here {X = X} p xs i x h e f = ap (λ (l : List X). find p l) (rest_is xs i x h e) ∙ cond-true (p x) _ _ f
+
+one_reversed : {Y : Type 0} (o : Option Y) → reverse (cons_option o []) ≡ cons_option o []
+one_reversed None = refl
+one_reversed (Some y) = refl
+
+cons_is : {Y : Type 0} (o : Option Y) (ys : List Y) → cons_option o [] ++ ys ≡ cons_option o ys
+cons_is None ys = refl
+cons_is (Some y) ys = refl
+
+-- what is given of a list from its end on is, from its end, what is given of the list
+pub map_reverse : {X Y : Type 0} (h : X → Option Y) (xs : List X) → reverse (filter_map h (reverse xs)) ≡ filter_map h xs
+map_reverse h [] = refl
+map_reverse {X = X} {Y = Y} h (x ∷ xs) =
+    ap (λ (l : List X). reverse (filter_map h l)) (reverse-append (x ∷ []) xs)
+    ∙ ap (λ (l : List Y). reverse l) (filter_map-append h (reverse xs) (x ∷ []))
+    ∙ reverse-append (filter_map h (reverse xs)) (cons_option (h x) [])
+    ∙ ap (λ (l : List Y). l ++ reverse (filter_map h (reverse xs))) (one_reversed (h x))
+    ∙ ap (λ (l : List Y). cons_option (h x) [] ++ l) (map_reverse h xs)
+    ∙ cons_is (h x) (filter_map h xs)
+
+module _ (site : ℕ) (keys : List ℕ) (past : List Step) where
+  -- the attempts that these steps began at the site and that run there
+  abbrev pub live : List Step → List TxnId
+  live steps = filter (λ t. runs site t past) (filter_map (begun_at site) steps)
+
+  by_run : (t : TxnId) (ts : List TxnId) (b : Bool)
+      → holder_among past keys (cond b (t ∷ ts) ts) ≡ option_or (cond b (option_map (λ key. (t, key)) (common_key keys (declared t past))) None) (holder_among past keys ts)
+  by_run t ts true = refl
+  by_run t ts false = refl
+
+  by_begin : (o : Option TxnId) (ts : List TxnId)
+      → holder_among past keys (filter (λ t. runs site t past) (cons_option o ts)) ≡ option_or (option_and_then (holds_one site keys past) o) (holder_among past keys (filter (λ t. runs site t past) ts))
+  by_begin None ts = refl
+  by_begin (Some t) ts = by_run t (filter (λ u. runs site u past) ts) (runs site t past)
+
+  -- the first step is looked at first
+  pub holder_first : (s : Step) (steps : List Step) → holder_among past keys (live (s ∷ steps)) ≡ option_or (held_by site keys past s) (holder_among past keys (live steps))
+  holder_first s steps = by_begin (begun_at site s) (filter_map (begun_at site) steps)
+
+-- the holder is looked for from the earliest step on
+pub holder_of : (site : ℕ) (keys : List ℕ) (steps : List Step) → holder (reverse steps) site keys ≡ holder_among (reverse steps) keys (live site keys (reverse steps) steps)
+holder_of site keys steps = ap (λ (ts : List TxnId). holder_among (reverse steps) keys (filter (λ t. runs site t (reverse steps)) ts)) (map_reverse (begun_at site) steps)
+
+pub holder_at : (site : ℕ) (keys : List ℕ) (past steps : List Step) (i : ℕ) (s : Step) → i < length steps → s ≡ get_or steps i s
+    → holder_among past keys (live site keys past (drop i steps)) ≡ option_or (held_by site keys past s) (holder_among past keys (live site keys past (drop (i + 1) steps)))
+holder_at site keys past steps i s h e = ap (λ (l : List Step). holder_among past keys (live site keys past l)) (rest_is steps i s h e) ∙ holder_first site keys past s (drop (i + 1) steps)

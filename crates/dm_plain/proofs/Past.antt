@@ -1,0 +1,33 @@
+-- The steps of a list up to a place, the latest first.
+use Rattle.std.proofs.Common.{ℕ, zero, suc, ◌+◌, ◌<◌, ◌≤◌, ◌≡◌, List, [], ◌∷◌, ◌++◌, length, take, drop, get_or, refl, ap, sym, ◌∙◌, subst, arith}
+use Rattle.std.specs.Prelude.{reverse}
+use Rattle.std.proofs.lemmas.List.{take-append-drop}
+use Rattle.dm_event.proofs.Backwards.{reverse_take}
+use Rattle.dm_event.specs.declared.step.Step.{Step}
+use Rattle.dm_event.specs.Layout.{Layout}
+use Rattle.dm_model.specs.Legal.{Legal}
+use Rattle.dm_model.proofs.Histories.{legal_prefix}
+
+-- after one step more it stands first
+pub past_more : {X : Type 0} (xs : List X) (i : ℕ) (x : X) → i < length xs → x ≡ get_or xs i x → reverse (take (i + 1) xs) ≡ x ∷ reverse (take i xs)
+past_more {X = X} xs i x h e = reverse_take xs i x h ∙ ap (λ (y : X). y ∷ reverse (take i xs)) (sym e)
+
+take_all : {X : Type 0} (xs : List X) (i : ℕ) → length xs ≤ i → take i xs ≡ xs
+take_all [] zero h = refl
+take_all [] (suc i) h = refl
+take_all (x ∷ xs) zero h = absurd (omega (arith, h))
+take_all {X = X} (x ∷ xs) (suc i) h = ap (λ (l : List X). x ∷ l) (take_all xs i (omega (arith, h)))
+
+-- after all steps it is the whole list
+pub past_whole : {X : Type 0} (xs : List X) (i : ℕ) → length xs ≤ i → reverse (take i xs) ≡ reverse xs
+past_whole {X = X} xs i h = ap (λ (l : List X). reverse l) (take_all xs i h)
+
+-- the steps up to a place are legal where all are
+pub legal_front : (layout : Layout) (steps : List Step) (i : ℕ) → Legal layout steps → Legal layout (take i steps)
+legal_front layout steps i h = legal_prefix layout (take i steps) (drop i steps) (subst (λ (l : List Step). Legal layout l) (sym (take-append-drop i steps)) h)
+
+pub drop_all : {X : Type 0} (xs : List X) (i : ℕ) → length xs ≤ i → drop i xs ≡ []
+drop_all [] zero h = refl
+drop_all [] (suc i) h = refl
+drop_all (x ∷ xs) zero h = absurd (omega (arith, h))
+drop_all (x ∷ xs) (suc i) h = drop_all xs i (omega (arith, h))

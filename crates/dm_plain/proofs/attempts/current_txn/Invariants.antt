@@ -1,0 +1,9 @@
+use Rattle.std.proofs.Common.{◌≡◌, take}
+use Rattle.std.specs.Prelude.{reverse, option_copied, option_map}
+use Rattle.dm_model.specs.Words.{latest, since, count_of}
+use Rattle.dm_plain.specs.Routings.{routed_by}
+use Rattle.dm_model.specs.Attempts.{is_reply}
+use Rattle.dm_plain.proofs.attempts.current_txn.Given as goal
+
+abbrev pub invariant-loop-step : goal.invariant-loop-step
+invariant-loop-step l = l.last ≡ latest (routed_by l.session) (since (is_reply l.session) (reverse (take l.step-index l.steps)))

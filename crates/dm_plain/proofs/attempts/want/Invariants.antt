@@ -1,0 +1,8 @@
+use Rattle.std.proofs.Common.{◌≡◌, take}
+use Rattle.std.specs.Prelude.{reverse, option_copied, option_map}
+use Rattle.dm_model.specs.Words.{latest, since, count_of}
+use Rattle.dm_plain.specs.Routings.{want_of}
+use Rattle.dm_plain.proofs.attempts.want.Given as goal
+
+abbrev pub invariant-loop-step : goal.invariant-loop-step
+invariant-loop-step l = option_copied l.last ≡ latest (want_of l.txn) (reverse (take l.step-index l.steps))

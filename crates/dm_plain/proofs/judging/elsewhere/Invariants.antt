@@ -1,0 +1,7 @@
+use Rattle.std.proofs.Common.{◌≡◌, ◌+◌, ◌-◌, ◌<◌, ◌≤◌, ℕ, List, Option, Some, None, ap, sym, ◌∙◌, refl, subst, arith, inl, inr, length, take, drop, get_or, Bool, true, false, not}
+use Rattle.std.specs.Prelude.{reverse}
+use Rattle.dm_plain.proofs.Elsewhere.{left}
+use Rattle.dm_plain.proofs.judging.elsewhere.Given as goal
+
+abbrev pub invariant-loop-key : goal.invariant-loop-key
+invariant-loop-key l = left l.schema (reverse l.steps) l.site (drop l.key-index l.keys) ≡ left l.schema (reverse l.steps) l.site l.keys

@@ -1,0 +1,7 @@
+use Rattle.std.proofs.Common.{◌≡◌, ℕ, List, Option, Some, None, ap, sym, ◌∙◌, refl, subst, arith, reverse}
+use Rattle.dm_model.specs.Progress.{entry_count, reached}
+use Rattle.dm_plain.proofs.Components.{vector_is}
+use Rattle.dm_plain.proofs.progress.full.Goals as goal
+
+pub returns : goal.returns
+returns c = vector_is c.args.schema.now.sites c.loop-origin.vector (λ k. entry_count k (reverse c.args.steps.now)) c.loop-origin.invariant.0 (λ k x y. c.loop-origin.invariant.1 k x (omega (arith, y)))

@@ -1,0 +1,9 @@
+use Rattle.std.proofs.Common.{◌≡◌, ◌<◌, ◌≤◌, ◌+◌, ℕ, take, length, get_or, drop}
+use Rattle.std.specs.Prelude.{reverse, option_copied, option_map, ◌==◌, filter_map, filter, false, slice_get}
+use Rattle.dm_model.specs.Words.{latest, since, count_of}
+use Rattle.dm_model.specs.Runs.{begin_of}
+use Rattle.dm_model.specs.Tests.{same_txn}
+use Rattle.dm_plain.proofs.running.begin_vector.Given as goal
+
+abbrev pub invariant-loop-step : goal.invariant-loop-step
+invariant-loop-step l = l.last ≡ latest (begin_of (same_txn l.txn)) (reverse (take l.step-index l.steps))

@@ -1,0 +1,12 @@
+use Rattle.std.proofs.Common.{◌≡◌, ◌+◌, ℕ, List, Option, Some, None, ap, sym, ◌∙◌, refl, subst, arith, inl, inr, length, take, drop, []}
+use Rattle.std.proofs.Common.{get_or}
+use Rattle.std.proofs.lemmas.Grind.{get_or_default_zero}
+use Rattle.dm_model.specs.Tests.{is_among}
+use Rattle.dm_plain.proofs.Finding.{find_on}
+use Rattle.dm_plain.proofs.running.common_key.Goals as goal
+
+pub loop-key-preserved : goal.loop-key-preserved
+loop-key-preserved c =
+    find_on (is_among c.args.others.now) c.args.keys.now c.loop-key.key-index (get_or c.args.keys.now c.loop-key.key-index 0) c.loop-key-test.true
+    (sym (get_or_default_zero c.args.keys.now c.loop-key.key-index (get_or c.args.keys.now c.loop-key.key-index 0) c.loop-key-test.true)) (sym c.is_among.ensures ∙ c.if-is_among.false)
+    ∙ c.loop-key.invariant

@@ -1,0 +1,7 @@
+use Rattle.std.proofs.Common.{◌≡◌, ◌<◌, ◌≤◌, ◌+◌, ℕ, take, length, get_or, drop}
+use Rattle.std.specs.Prelude.{reverse, option_copied, option_map, ◌==◌, filter_map, filter, false, slice_get}
+use Rattle.dm_model.specs.Values.{written}
+use Rattle.dm_plain.proofs.values.written.Given as goal
+
+abbrev pub invariant-loop-pair : goal.invariant-loop-pair
+invariant-loop-pair l = written (drop l.pair-index l.pairs) l.key ≡ written l.pairs l.key

@@ -1,0 +1,66 @@
+-- What one further step adds to what is read of a past.
+use Rattle.std.specs.Prelude.{ℕ, ℤ, ◌==◌, ◌&&◌, if◌then◌else◌, List, Option, Some, None, nat_le, option_map, option_and_then}
+use Rattle.dm_event.specs.declared.step.Entry.{Entry}
+use Rattle.dm_event.specs.declared.step.Found.{Found}
+use Rattle.dm_event.specs.declared.step.Found.TheVariants.{Kept}
+use Rattle.dm_event.specs.declared.step.Pending.{Pending}
+use Rattle.dm_event.specs.declared.placing.Placing.{Placing}
+use Rattle.dm_event.specs.declared.placing.Placing.TheVariants.{Between, Granted}
+use Rattle.dm_event.specs.declared.step.Pending.TheVariants.{Commit, Release, Grant}
+use Rattle.dm_event.specs.declared.step.Said.{Said}
+use Rattle.dm_event.specs.declared.step.Said.TheVariants as said
+use Rattle.dm_event.specs.declared.step.Step.{Step}
+use Rattle.dm_event.specs.declared.step.TxnId.{TxnId}
+use Rattle.dm_event.specs.Vectors.{join}
+use Rattle.dm_event.specs.Entries.{commit_vector}
+use Rattle.dm_model.specs.Acts.{entry_at}
+use Rattle.dm_model.specs.Allowed.{common_key}
+use Rattle.dm_model.specs.Attempts.{declared}
+use Rattle.dm_model.specs.Runs.{runs, begun_at, last_begin}
+use Rattle.dm_model.specs.Closed.{is_inside}
+use Rattle.dm_model.specs.Values.{written}
+
+-- the entry of a kept commit
+abbrev pub kept_entry : Found → Option Pending → Option Entry
+kept_entry Kept (Some (Commit entry)) = Some entry
+kept_entry found other = None
+
+-- how many entries of the origin the one is
+abbrev pub of_origin : ℕ → Option Entry → ℕ
+of_origin j None = 0
+of_origin j (Some e) = if e.origin == j then 1 else 0
+
+-- the entry, if it has this origin and number
+abbrev pub numbered : ℕ → ℕ → Option Entry → Option Entry
+numbered j n None = None
+numbered j n (Some e) = if (e.origin == j) && (e.seq == n) then Some e else None
+
+-- what the entry wrote of the key, if it is inside the vector
+abbrev pub written_by : ℕ → List ℕ → Option Entry → Option ℤ
+written_by key v None = None
+written_by key v (Some e) = if is_inside v e then written e.writes key else None
+
+-- the placing after a pending step that the site kept
+abbrev pub kept_placing : ℕ → ℕ → Found → Option Pending → Placing → Placing
+kept_placing p site Kept (Some (Release part epoch to vector)) now = if part == p then Between site epoch to vector else now
+kept_placing p site Kept (Some (Grant part epoch vector)) now = if part == p then Granted site epoch else now
+kept_placing p site found other now = now
+
+-- the attempt, where it runs at the site, with the first of the keys that it declares too
+abbrev pub holds_one : ℕ → List ℕ → List Step → TxnId → Option (TxnId × ℕ)
+holds_one site keys past t = if runs site t past then option_map (λ key. (t, key)) (common_key keys (declared t past)) else None
+
+-- the same of the attempt that the step began at the site
+abbrev pub held_by : ℕ → List ℕ → List Step → Step → Option (TxnId × ℕ)
+held_by site keys past s = option_and_then (holds_one site keys past) (begun_at site s)
+
+-- the vector that an outcome adds to what the session has seen
+abbrev pub said_vector : ℕ → Said → List Step → Option (List ℕ)
+said_vector c (said.Committed site seq) past = option_map commit_vector (entry_at site seq past)
+said_vector c (said.Read site) past = last_begin c past
+said_vector c other past = None
+
+-- the maximum with one vector more, if there is one
+abbrev pub join_one : List ℕ → Option (List ℕ) → List ℕ
+join_one v None = v
+join_one v (Some more) = join v more

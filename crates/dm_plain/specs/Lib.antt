@@ -1,0 +1,4 @@
+pub mod Adding
+pub mod Routings
+pub mod Judging
+pub mod Fitting

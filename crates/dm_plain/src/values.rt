@@ -1,0 +1,68 @@
+//! The value of a key at a vector.
+
+ghost use Rattle.std.specs.Prelude.{◌≡◌, reverse, option_copied};
+ghost use Rattle.dm_model.specs.Acts.{entries};
+ghost use Rattle.dm_model.specs.Values.{written, newest, value};
+ghost use Rattle.dm_plain.specs.Adding.{written_by};
+
+use crate::acts::entry_of;
+use dm_body::View;
+use dm_event::{Entry, Key, Pair, Schema, Step, Value, Vector};
+
+/// The values of the keys at a vector.
+#[derive(Drop)]
+pub struct Reading<'a> {
+    pub schema: &'a Schema,
+    pub steps: &'a [Step],
+    pub at: &'a Vector,
+}
+
+impl View for Reading<'_> {
+    ghost values = { λ r key. value r.schema.now (reverse r.steps.now) key r.at.now };
+
+    fn read(&mut self, key: Key) -> Value {
+        value(self.schema, self.steps, key, self.at)
+    }
+}
+
+/// What the last writer of the key inside the vector wrote, else the key's opening value.
+pub fn value(schema: &Schema, steps: &[Step], key: Key, at: &Vector) -> Value
+    ensures { result ≡ value schema.now (reverse steps.now) key at.now }
+{
+    match newest(steps, key, at) {
+        Some(value) => value,
+        None => schema.opening(key),
+    }
+}
+
+/// What the last writer of the key inside the vector wrote.
+fn newest(steps: &[Step], key: Key, at: &Vector) -> Option<Value>
+    ensures { result ≡ newest (entries (reverse steps.now)) key at.now }
+{
+    let mut last = None;
+    for i in 0..steps.len() {
+        last = written_by(entry_of(&steps[i], &steps[..i]), key, at).or(last);
+    }
+    last
+}
+
+fn written_by(entry: Option<&Entry>, key: Key, at: &Vector) -> Option<Value>
+    ensures { result ≡ written_by key at.now (option_copied entry.entry) }
+{
+    match entry {
+        Some(entry) if entry.seq <= at.get(entry.origin) => written(entry.writes.as_slice(), key),
+        _ => None,
+    }
+}
+
+/// The value that the pairs give the key.
+pub(crate) fn written(pairs: &[Pair], key: Key) -> Option<Value>
+    ensures { result ≡ written pairs.now key }
+{
+    for pair in pairs {
+        if pair.key == key {
+            return Some(pair.value);
+        }
+    }
+    None
+}

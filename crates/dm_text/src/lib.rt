@@ -1,0 +1,14 @@
+//! The words and numbers of a text, and the texts of numbers, vectors, transactions and pairs.
+#![tactic(auto)]
+
+mod cutting;
+mod iterating;
+mod numbers;
+mod shown;
+#[cfg(test)]
+mod tests;
+
+pub use cutting::{lines_of, words};
+pub use iterating::Words;
+pub use numbers::{number, numbers_both_ways, put_number, put_signed, signed};
+pub use shown::{PairsText, TxnText, VectorText, put_pairs, put_txn, put_vector};
