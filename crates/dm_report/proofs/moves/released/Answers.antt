@@ -1,0 +1,12 @@
+use Rattle.std.proofs.Common.{Option, ap, ◌∙◌}
+use Rattle.std.specs.Prelude.{reverse}
+use Rattle.dm_event.specs.declared.step.Pending.{Pending}
+use Rattle.dm_report.specs.Keeping.{kept_release}
+use Rattle.dm_report.proofs.FurtherMoves.{release_kept}
+use Rattle.dm_report.proofs.moves.released.Goals as goal
+
+pub returns-in-Restart : goal.returns-in-Restart
+returns-in-Restart c =
+    c.kept_release.ensures
+    ∙ ap (λ (o : Option Pending). kept_release c.args.part c.in-Restart.site c.in-Restart.found o) c.pending_at.ensures
+    ∙ release_kept c.args.part c.args.step.now (reverse c.args.before.now) c.in-Restart.site c.in-Restart.vector c.in-Restart.found c.in-Restart.is

@@ -1,0 +1,4 @@
+pub mod Moves
+pub mod Keeping
+pub mod Totals
+pub mod Rest

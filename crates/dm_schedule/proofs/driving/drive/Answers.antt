@@ -1,0 +1,39 @@
+use Rattle.std.proofs.Common.{arith, ◌∙◌, ap, sym, subst, ◌++◌, ℕ, List}
+use Rattle.std.proofs.lemmas.List.{append-nil}
+use Rattle.std.proofs.lemmas.Result.{err_from_is_err_and}
+use Rattle.dm_schedule.specs.Drive.{Drive}
+use Rattle.dm_schedule.specs.Driver.{seen}
+use Rattle.dm_schedule.proofs.Begins.{begins_further, begins_more}
+use Rattle.dm_schedule.proofs.Keeps.{Keeps, line_keeps}
+use Rattle.dm_schedule.proofs.Lines.{history_more, answers_more, driven_end}
+use Rattle.dm_schedule.proofs.driving.drive.Goals as goal
+
+pub returns-in_err-answer-clause-answers : goal.returns-in_err-answer-clause-answers
+returns-in_err-answer-clause-answers c =
+    let error = err_from_is_err_and c.from_residual-in_err-answer.result c.from_residual-in_err-answer.ensures.1 in
+    rw (error.1) (begins_further _ _ _ c.in_err-answer.ensures.answers c.loop-line.invariant.begins)
+
+pub loop-line-preserved : goal.loop-line-preserved
+loop-line-preserved c =
+    let before = c.loop-line.invariant in
+    let lt = rw c.deref-line-items.ensures.value at c.loop-line-test.true in
+    let at = rw c.deref-line-items.ensures.value at c.line-item.is in
+    let keeps = subst (λ (d : Drive). Keeps (seen c.loop-line.driver) d) (sym c.in_ok-answer.ensures.does) (line_keeps (seen c.loop-line.driver) c.line-item.result) in
+    record {
+      layout = keeps.layout ∙ before.layout;
+      ops = omega (arith, keeps.ops, before.ops, c.answer.new.self.ops.ok.0, c.loop-line.driver.ops.ok.0);
+      steps = omega (arith, keeps.steps, before.steps);
+      history = history_more (seen c.loop-line.driver) (seen c.answer.new.self) _ _ c.line-item.result lt at c.in_ok-answer.ensures.does _ before.history;
+      answers = answers_more (seen c.loop-line.driver) (seen c.answer.new.self) _ _ c.line-item.result lt at c.in_ok-answer.ensures.does c.loop-line.out.items _ _ c.in_ok-answer.ensures.answers before.answers;
+      begins = begins_more _ _ _ _ c.in_ok-answer.ensures.answers before.begins;
+    }
+
+pub returns-clause-history : goal.returns-clause-history
+returns-clause-history c =
+    let end = driven_end (seen c.loop-line.driver) _ c.loop-line.line-index (rw c.deref-line-items.ensures.value at c.loop-line-test.false) in
+    sym (ap (λ (r : Drive × List ℕ). r.0.history) end) ∙ ap (λ (d : Drive). d.history) c.loop-line.invariant.history
+
+pub returns-clause-answers : goal.returns-clause-answers
+returns-clause-answers c =
+    let end = driven_end (seen c.loop-line.driver) _ c.loop-line.line-index (rw c.deref-line-items.ensures.value at c.loop-line-test.false) in
+    sym (append-nil c.loop-line.out.items) ∙ sym (ap (λ (r : Drive × List ℕ). c.loop-line.out.items ++ r.1) end) ∙ c.loop-line.invariant.answers

@@ -1,0 +1,127 @@
+//! What a command line is answered.
+
+ghost use Rattle.std.specs.Prelude.{◌++◌, Some, codes};
+ghost use Rattle.dm_core.specs.Ledger.{past};
+ghost use Rattle.dm_history.specs.Parts.{choice_text};
+ghost use Rattle.dm_history.specs.Whys.{why_text};
+ghost use Rattle.dm_schedule.specs.Answers.{answer_text};
+ghost use Rattle.dm_text.specs.Text.{Appends};
+
+use crate::reply::put_reply;
+use dm_core::Book;
+use dm_event::{Choice, NoMemory, Said, SiteNo, TxnId, Value, Vector, Why};
+use dm_history::put_why;
+use dm_text::{TxnText, VectorText};
+use std::alloc::Global;
+use std::fmt;
+
+/// What a command line is answered.
+#[derive(Clone, Copy, Debug, PartialEq, Eq)]
+pub(crate) enum Answer {
+    Routed {
+        txn: TxnId,
+        site: SiteNo,
+        choice: Choice,
+    },
+    Begun {
+        txn: TxnId,
+        site: SiteNo,
+        begin: Vector,
+    },
+    Value {
+        value: Value,
+    },
+    Put,
+    Added,
+    Committed {
+        site: SiteNo,
+        seq: u64,
+        /// The commit vector.
+        vector: Vector,
+    },
+    Replied {
+        session: u32,
+        number: u32,
+        said: Said,
+    },
+    /// Why the line's step may not come.
+    Refused(Why),
+    /// The attempt has done 64 ops.
+    RefusedOps,
+}
+
+#[derive(Drop)]
+struct ChoiceText(Choice);
+
+impl fmt::Display for ChoiceText {
+    ghost output = { λ t. Some (choice_text t.0) };
+
+    #[tactic(auto, unfolding(dm_history::specs::Parts::choice_text))]
+    fn fmt<W: fmt::Write>(&self, f: &mut fmt::Formatter<W>) -> fmt::Result {
+        match self.0 {
+            Choice::Master => write!(f, "master"),
+            Choice::Best => write!(f, "best"),
+            Choice::Reader => write!(f, "reader"),
+            Choice::Hand => write!(f, "hand"),
+        }
+    }
+}
+
+fn append(out: &mut Vec<u8>, text: &str) -> Result<(), NoMemory>
+    ensures { Appends result out.old.items out.new.items text.now }
+{
+    Ok(out.extend_from_slice(text.as_bytes())?)
+}
+
+/// Appends the line of a refusal.
+pub(crate) fn put_refused(alloc: Global, out: &mut Vec<u8>, why: &Why) -> Result<(), NoMemory>
+    ensures { Appends result out.old.items out.new.items (codes "refused " ++ (why_text why.now ++ codes "\n")) }
+{
+    append(out, "refused ")?;
+    put_why(alloc, out, why)?;
+    append(out, "\n")
+}
+
+/// Appends the line of an answer. The book has the step that the command line has brought.
+#[tactic(auto, using(crate::proofs::Begins::begins_same), unfolding(crate::specs::Answers::answer_text))]
+pub(crate) fn put_answer(
+    alloc: Global,
+    out: &mut Vec<u8>,
+    book: &Book,
+    answer: Answer,
+) -> Result<(), NoMemory>
+    ensures { Appends result out.old.items out.new.items (answer_text (past book.now) answer) }
+{
+    match answer {
+        Answer::Routed { txn, site, choice } => {
+            let txn = TxnText(&txn);
+            let choice = ChoiceText(choice);
+            append(
+                out,
+                &format!(in alloc; "routed {txn} to {site} {choice}\n")?,
+            )
+        }
+        Answer::Begun { txn, site, begin } => {
+            let txn = TxnText(&txn);
+            let begin = VectorText(&begin);
+            append(out, &format!(in alloc; "begun {txn} at {site} {begin}\n")?)
+        }
+        Answer::Value { value } => append(out, &format!(in alloc; "value {value}\n")?),
+        Answer::Put => append(out, "put\n"),
+        Answer::Added => append(out, "added\n"),
+        Answer::Committed { site, seq, vector } => {
+            let vector = VectorText(&vector);
+            append(
+                out,
+                &format!(in alloc; "committed {site}.{seq} {vector}\n")?,
+            )
+        }
+        Answer::Replied {
+            session,
+            number,
+            said,
+        } => put_reply(alloc, out, book, session, number, &said),
+        Answer::Refused(why) => put_refused(alloc, out, &why),
+        Answer::RefusedOps => append(out, "refused ops\n"),
+    }
+}

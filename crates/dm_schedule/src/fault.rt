@@ -1,0 +1,44 @@
+//! Why a line could not be read.
+
+ghost use Rattle.std.specs.Prelude.{◌≡◌};
+ghost use Rattle.dm_schedule.specs.declared.fault.LineError.TheVariants.{Memory};
+ghost use Rattle.dm_schedule.specs.File.{at_line};
+
+use dm_event::{LineFault, NoMemory};
+use dm_history::HistoryError;
+use std::alloc::AllocFailed;
+
+/// Why a line could not be read: its first fault, or want of memory.
+#[derive(Clone, Copy, Debug, PartialEq, Eq)]
+pub(crate) enum LineError {
+    Fault(LineFault),
+    Memory,
+}
+
+impl LineError {
+    /// The error of the line with this number.
+    pub(crate) fn at(self, line: u64) -> HistoryError
+        ensures { result ≡ at_line line self }
+    {
+        match self {
+            LineError::Fault(kind) => HistoryError::Fault { line, kind },
+            LineError::Memory => HistoryError::Memory,
+        }
+    }
+}
+
+impl From<NoMemory> for LineError {
+    ghost from_gives = { λ _ e. e ≡ Memory };
+
+    fn from(_e: NoMemory) -> LineError {
+        LineError::Memory
+    }
+}
+
+impl<T: Drop> From<AllocFailed<T>> for LineError {
+    ghost from_gives = { λ _ e. e ≡ Memory };
+
+    fn from(_e: AllocFailed<T>) -> LineError {
+        LineError::Memory
+    }
+}

@@ -1,0 +1,137 @@
+use crate::reply::put_reply;
+use crate::{drive, read};
+use dm_core::Book;
+use dm_event::{Cause, NoMemory, Said, Schema, Weights};
+use std::alloc::Global;
+use std::test::Fail;
+
+const HEADER: &str = "sites 2 parts 2 width 10 masters 1 2\n";
+
+const ROUTED: &str = "route 1 at 1 keys 3\nbegin 1\n";
+
+const BEGUN: &str = "routed 1.1.1 to 1 hand\nbegun 1.1.1 at 1 [0 0]\n";
+
+const EIGHT: &str = "get 1 3\nget 1 3\nget 1 3\nget 1 3\nget 1 3\nget 1 3\nget 1 3\nget 1 3\n";
+
+const VALUES: &str = "value 0\nvalue 0\nvalue 0\nvalue 0\nvalue 0\nvalue 0\nvalue 0\nvalue 0\n";
+
+// The answers to the lines of a file.
+fn answers(alloc: Global, lines: &str) -> Result<Vec<u8>, NoMemory> {
+    let file = format!(in alloc; "{HEADER}{lines}")?;
+    let mut out = Vec::new(alloc);
+    if let Ok(schedule) = read(alloc, file.as_bytes()) {
+        if schedule.lines.len() < 1000 {
+            drive(alloc, &schedule, &mut out)?;
+        }
+    }
+    Ok(out)
+}
+
+#[test]
+fn lines_are_answered(rt: HostRuntime) -> Result<(), Fail> {
+    let alloc = rt.alloc();
+    for (lines, want) in [
+        (
+            "route 1 at 1 keys 3\nbegin 1\nadd 1 3 5\nget 1 3\ncommit 1\nreply 1\n",
+            "routed 1.1.1 to 1 hand\nbegun 1.1.1 at 1 [0 0]\nadded\nvalue 5\n\
+            committed 1.1 [1 0]\nreply 1 1 committed 1.1 [1 0] reads 3:5\n",
+        ),
+        // the next item sees the first one's write, and none of its ops
+        (
+            "route 1 at 1 keys 3\nbegin 1\nput 1 3 5\ncommit 1\nreply 1\n\
+            route 1 at 1 keys 5 3\nbegin 1\nget 1 3\nadd 1 3 -7\nget 1 4\nget 1 3\ncommit 1\n\
+            reply 1\nroute 1 at 2 keys 12\nbegin 1\n",
+            "routed 1.1.1 to 1 hand\nbegun 1.1.1 at 1 [0 0]\nput\ncommitted 1.1 [1 0]\n\
+            reply 1 1 committed 1.1 [1 0] reads -\n\
+            routed 1.2.1 to 1 hand\nbegun 1.2.1 at 1 [1 0]\nvalue 5\nadded\nvalue 0\nvalue -2\n\
+            committed 1.2 [2 0]\nreply 1 2 committed 1.2 [2 0] reads 3:5,4:0,3:-2\n\
+            routed 1.3.1 to 2 hand\nrefused behind 1\n",
+        ),
+        // two attempts want one key
+        (
+            "route 1 at 1 keys 3\nbegin 1\nroute 2 at 1 keys 4 3\nbegin 2\nput 1 3 1\ncommit 1\n\
+            begin 2\nget 2 3\n",
+            "routed 1.1.1 to 1 hand\nbegun 1.1.1 at 1 [0 0]\nrouted 2.1.1 to 1 hand\n\
+            refused held 1.1.1 key 3\nput\ncommitted 1.1 [1 0]\n\
+            begun 2.1.1 at 1 [1 0]\nvalue 1\n",
+        ),
+        (
+            "route 1 at 1 keys 3\nbegin 1\nput 1 4 5\nadd 1 4 5\nget 1 4\ncommit 1\nreply 1\n",
+            "routed 1.1.1 to 1 hand\nbegun 1.1.1 at 1 [0 0]\nrefused undeclared 4\n\
+            refused undeclared 4\nvalue 0\nrefused no writes\nrefused said\n",
+        ),
+        (
+            "begin 1\nget 1 3\nput 1 3 5\nadd 1 3 5\ncommit 1\nreply 1\n\
+            route 1 at 1 keys 15\nroute 1 at 1 keys 3\nbegin 1\nget 1 3\n",
+            "refused not routed\nrefused not running\nrefused not running\nrefused not running\n\
+            refused not running\nrefused said\nrouted 1.1.1 to 1 hand\n\
+            refused unfinished 1.1.1\nrefused elsewhere 1\nrefused not running\n",
+        ),
+    ] {
+        assert_eq!(rt;
+            answers(alloc, lines)?.as_slice(),
+            want.as_bytes(),
+            "{lines}"
+        );
+    }
+    Ok(())
+}
+
+#[test]
+fn the_65th_op(rt: HostRuntime) -> Result<(), Fail> {
+    let alloc = rt.alloc();
+    let lines = format!(in alloc;
+        "{ROUTED}{EIGHT}{EIGHT}{EIGHT}{EIGHT}{EIGHT}{EIGHT}{EIGHT}{EIGHT}get 1 3\nput 1 4 5\n"
+    )?;
+    let want = format!(in alloc;
+        "{BEGUN}{VALUES}{VALUES}{VALUES}{VALUES}{VALUES}{VALUES}{VALUES}{VALUES}\
+        refused ops\nrefused ops\n"
+    )?;
+    assert_eq!(rt; answers(alloc, lines.as_str())?.as_slice(), want.as_bytes());
+    Ok(())
+}
+
+#[test]
+fn replies_have_their_lines(rt: HostRuntime) -> Result<(), Fail> {
+    let alloc = rt.alloc();
+    let masters = vec![in alloc; 1, 2]?;
+    let weights = Weights {
+        balance: 1,
+        delay: 1,
+        together: 1,
+    };
+    let schema = Schema::new(2, 10, masters, weights, Vec::new(alloc)).ok_or("a schema")?;
+    let book = Book::new(alloc, &schema, &[0; 32])?;
+    let mut out = Vec::new(alloc);
+    for (number, said) in [
+        (1, Said::InDoubt { site: 2 }),
+        (
+            2,
+            Said::Placed {
+                part: 1,
+                site: 2,
+                epoch: 3,
+            },
+        ),
+        (3, Said::Restarted { site: 2 }),
+        (4, Said::Refused(Cause::Undeclared { key: 7 })),
+        (5, Said::Refused(Cause::Log { site: 2 })),
+        (
+            6,
+            Said::Refused(Cause::Damage {
+                site: 2,
+                place: 40,
+                read: Some(255),
+                written: None,
+            }),
+        ),
+        (7, Said::Refused(Cause::Memory)),
+    ] {
+        put_reply(alloc, &mut out, &book, 32, number, &said)?;
+    }
+    let want = "reply 32 1 in doubt at 2\nreply 32 2 placed 1 at 2 epoch 3\n\
+        reply 32 3 restarted 2\nreply 32 4 refused undeclared 7\nreply 32 5 refused log 2\n\
+        reply 32 6 refused damage 2 at 40 read 255 written -\nreply 32 7 refused memory\n";
+    assert_eq!(rt; out.as_slice(), want.as_bytes());
+    Ok(())
+}

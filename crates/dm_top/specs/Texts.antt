@@ -1,0 +1,28 @@
+-- What a status says to the user.
+use Rattle.std.specs.Prelude.{ℕ, List, ◌++◌, codes}
+use Rattle.std.specs.Fmt.{decimal}
+use Rattle.dm_event.specs.declared.why.LineFault.{LineFault}
+use Rattle.dm_event.specs.declared.why.LineFault.TheVariants as fault
+use Rattle.dm_top.specs.declared.status.Status.{Status}
+use Rattle.dm_top.specs.declared.status.Status.TheVariants as status
+
+unfoldable pub fault_text : LineFault → List ℕ
+fault_text fault.Word = codes "word"
+fault_text fault.Count = codes "count"
+fault_text fault.Number = codes "number"
+fault_text fault.Range = codes "range"
+fault_text fault.Repeat = codes "repeat"
+fault_text fault.Unfinished = codes "unfinished"
+
+unfoldable pub limit_text : ℕ → List ℕ
+limit_text limit = codes ": longer than " ++ (decimal limit ++ codes " bytes")
+
+unfoldable pub status_text : Status → List ℕ
+status_text status.Done = codes "done"
+status_text status.BadWords = codes "bad words"
+status_text (status.Absent name) = name ++ codes ": absent"
+status_text (status.TooLong name limit) = name ++ limit_text limit
+status_text (status.StepFault line kind) = codes "line " ++ (decimal line ++ (codes ": " ++ fault_text kind))
+status_text status.ReadFault = codes "read fault"
+status_text status.WriteFault = codes "write fault"
+status_text status.Memory = codes "no memory"
