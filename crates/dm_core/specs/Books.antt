@@ -1,5 +1,5 @@
 -- What a book's fields say.
-use Rattle.std.specs.Prelude.{◌-◌, ◌≤◌, vec_len, vec_capacity}
+use Rattle.std.specs.Prelude.{◌-◌, vec_len, vec_capacity}
 use Rattle.dm_model.specs.Legal.{Legal}
 use Rattle.dm_core.specs.Ledger.{Ledger}
 use Rattle.dm_core.specs.declared.book.Book.TheInside.{Inside}

@@ -141,7 +141,7 @@ impl Book {
     }
 
     /// Whether the step may follow the history, and why not: the first rule that it breaks. So far it
-    /// judges a Begin, a Commit, a Reply, and a Route by hand.
+    /// judges a Begin, a Commit, an End, a Refresh, a Reply, and a Route by hand.
     pub fn enabled(&self, step: &Step) -> Result<(), Why>
         requires { is_judged step.now ≡ true }
         ensures { MatchResult result (λ done. refusal self.now.layout (past self.now) step.now ≡ None) (λ why. refusal self.now.layout (past self.now) step.now ≡ Some why) }

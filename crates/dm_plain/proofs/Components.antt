@@ -1,8 +1,8 @@
 -- Vectors by their components.
-use Rattle.std.proofs.Common.{ℕ, zero, suc, ◌+◌, ◌-◌, ◌<◌, ◌≤◌, ◌≡◌, List, [], ◌∷◌, length, get_or, refl, ap, sym, ◌∙◌, arith, subst, max}
+use Rattle.std.proofs.Common.{ℕ, zero, suc, ◌+◌, ◌<◌, ◌≤◌, ◌≡◌, List, [], ◌∷◌, length, get_or, refl, ap, sym, ◌∙◌, arith, max}
 use Rattle.std.specs.Prelude.{replicate, map, Option, Some, None, IfSome}
 use Rattle.std.specs.List.{range_with_len, cons_option}
-use Rattle.dm_event.specs.Vectors.{at, sites_to, vector_by, join_all, join, greatest}
+use Rattle.dm_event.specs.Vectors.{at, vector_by, join_all, join, greatest}
 use Rattle.dm_event.proofs.Components.{at_join}
 use Rattle.dm_plain.specs.Adding.{join_one}
 use Rattle.dm_model.proofs.VectorFacts.{at_by, long_by}

@@ -1,6 +1,6 @@
 -- What a further step adds to the entries.
-use Rattle.std.proofs.Common.{ℕ, zero, suc, ◌+◌, ◌≤◌, ◌<◌, ◌≡◌, Bool, true, false, cond, List, [], ◌∷◌, ◌++◌, Option, Some, None, length, take, get_or, refl, ap, sym, ◌∙◌, arith, subst}
-use Rattle.std.specs.Prelude.{ℤ, reverse, find, filter_map, option_map, option_to_list, ◌==◌, ◌&&◌}
+use Rattle.std.proofs.Common.{ℕ, suc, ◌+◌, ◌≤◌, ◌<◌, ◌≡◌, Bool, true, false, cond, List, [], ◌∷◌, ◌++◌, Option, Some, None, length, take, get_or, refl, ap, sym, ◌∙◌, arith, subst}
+use Rattle.std.specs.Prelude.{reverse, find, filter_map, option_map, option_to_list, ◌==◌, ◌&&◌}
 use Rattle.std.specs.Option.{option_or}
 use Rattle.std.proofs.lemmas.List.Elements.{filter_map-append}
 use Rattle.dm_event.specs.declared.placing.Placing.{Placing}
@@ -12,11 +12,10 @@ use Rattle.dm_event.specs.declared.step.Pending.TheVariants as pending
 use Rattle.dm_event.specs.declared.step.Step.{Step}
 use Rattle.dm_event.specs.declared.step.Step.TheVariants.{Route, Reply, Ask, Settle, Begin, Moved, Commit, End, Fail, Refresh, Release, Grant, Doubt, Restart}
 use Rattle.dm_model.specs.Acts.{acts, acts_of, entry_of, entries, entry_at}
-use Rattle.dm_model.specs.Closed.{is_inside}
 use Rattle.dm_model.specs.Doubts.{step_of, pending_at}
 use Rattle.dm_model.specs.Placings.{placed_by, after_acts}
 use Rattle.dm_model.specs.Progress.{entry_count}
-use Rattle.dm_model.specs.Values.{newest, written}
+use Rattle.dm_model.specs.Values.{newest}
 use Rattle.dm_model.specs.Words.{count_of}
 use Rattle.dm_plain.specs.Adding.{kept_entry, of_origin, numbered, written_by, kept_placing}
 use Rattle.dm_plain.proofs.Past.{past_more}

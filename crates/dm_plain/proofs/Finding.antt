@@ -11,7 +11,7 @@ use Rattle.dm_event.specs.declared.step.Step.{Step}
 use Rattle.dm_event.specs.declared.step.TxnId.{TxnId}
 use Rattle.dm_model.specs.Allowed.{common_key, holder_among, holder}
 use Rattle.dm_model.specs.Attempts.{declared}
-use Rattle.dm_model.specs.Runs.{runs, begun_at, running}
+use Rattle.dm_model.specs.Runs.{runs, begun_at}
 use Rattle.dm_plain.specs.Adding.{held_by, holds_one}
 
 -- the rest of a list begins with its element

@@ -1,15 +1,12 @@
 -- What legality says of the numbers in a list of steps.
-use Rattle.std.proofs.Common.{ℕ, suc, ◌+◌, ◌<◌, ◌≤◌, ◌≡◌, ◌≢◌, Bool, true, false, cond, List, [], ◌∷◌, ◌++◌, Option, Some, None, length, refl, ap, sym, ◌∙◌, arith, subst, eqb-true, eq-eqb}
-use Rattle.std.specs.Prelude.{reverse, nat_le, filter_map, option_map, option_to_list, ◌==◌, ◌&&◌, if◌then◌else◌, is_some, unwrap_or}
+use Rattle.std.proofs.Common.{ℕ, ◌≤◌, ◌≡◌, ◌≢◌, Bool, true, false, cond, List, [], ◌∷◌, Option, Some, None, length, refl, ap, sym, ◌∙◌, arith, subst, eqb-true, eq-eqb}
+use Rattle.std.specs.Prelude.{nat_le, option_map, ◌==◌, ◌&&◌, if◌then◌else◌, is_some, unwrap_or}
 use Rattle.std.specs.List.{AllByRecursion as Each, list_all}
 use Rattle.std.specs.Option.{option_or}
-use Rattle.std.proofs.lemmas.Bool.{and_parts, leb-true, cond-true, cond-false, ne_eqb}
+use Rattle.std.proofs.lemmas.Bool.{and_parts, leb-true, cond-true, cond-false, ne_eqb, both_ways}
 use Rattle.dm_event.specs.Layout.{Layout}
 use Rattle.dm_event.specs.Vectors.{sites_to}
 use Rattle.dm_event.specs.declared.step.Entry.{Entry}
-use Rattle.dm_event.specs.declared.step.Found.TheVariants.{Clean, Kept, Lost}
-use Rattle.dm_event.specs.declared.step.Pending.{Pending}
-use Rattle.dm_event.specs.declared.step.Pending.TheVariants as pending
 use Rattle.dm_event.specs.declared.step.Said.{Said}
 use Rattle.dm_event.specs.declared.step.Said.TheVariants as said
 use Rattle.dm_event.specs.declared.step.Step.{Step}
@@ -172,6 +169,14 @@ runner_began layout past h t r =
     let at = some_is (run_site layout past t) r in
     let b = (sound_past layout past h).running at.0 t (found_holds (λ i. runs i t past) (sites_to layout.sites) at.0 at.1) in
     ap (λ (o : Option (List ℕ)). is_some o) b.1
+
+-- an attempt that hasn't begun doesn't run
+pub unbegun_idle : (layout : Layout) (past : List Step) → LegalPast layout past → (t : TxnId) → begin_vector t past ≡ None → run_site layout past t ≡ None
+unbegun_idle layout past h t e = by_site (run_site layout past t) refl
+  where
+    by_site : (o : Option ℕ) → run_site layout past t ≡ o → run_site layout past t ≡ None
+    by_site None f = f
+    by_site (Some i) f = absurd (both_ways false refl (sym (ap (λ (o : Option (List ℕ)). is_some o) e) ∙ runner_began layout past h t (ap (λ (o : Option ℕ). is_some o) f)))
 
 -- the keys that an attempt declares are in range
 pub declared_in : (layout : Layout) (past : List Step) → LegalPast layout past → (t : TxnId) → list_all (is_key layout) (declared t past) ≡ true

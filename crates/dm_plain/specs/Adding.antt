@@ -1,5 +1,5 @@
 -- What one further step adds to what is read of a past.
-use Rattle.std.specs.Prelude.{ℕ, ℤ, ◌==◌, ◌&&◌, if◌then◌else◌, List, Option, Some, None, nat_le, option_map, option_and_then}
+use Rattle.std.specs.Prelude.{ℕ, ℤ, ◌==◌, ◌&&◌, if◌then◌else◌, List, Option, Some, None, option_map, option_and_then}
 use Rattle.dm_event.specs.declared.step.Entry.{Entry}
 use Rattle.dm_event.specs.declared.step.Found.{Found}
 use Rattle.dm_event.specs.declared.step.Found.TheVariants.{Kept}

@@ -1,31 +1,33 @@
 //! Whether a step may follow a list of steps, and why not.
 
-ghost use Rattle.std.specs.Prelude.{◌≡◌, ◌<◌, ◌+◌, reverse, option_map, option_and_then, true, not, find};
+ghost use Rattle.std.specs.Prelude.{◌≡◌, ◌<◌, ◌+◌, reverse, option_map, option_and_then, option_copied, true, not, find};
 ghost use Rattle.std.specs.List.{list_all};
 ghost use Rattle.dm_event.specs.declared.step.Choice.TheVariants.{Hand};
 ghost use Rattle.dm_event.specs.declared.step.Want.{Want};
 ghost use Rattle.dm_event.specs.Vectors.{first_above};
-ghost use Rattle.dm_model.specs.Allowed.{elsewhere, route_clauses, reply_clauses, begin_clauses, commit_clauses, refusal};
+ghost use Rattle.dm_model.specs.Allowed.{elsewhere, missing_for, next_entry, route_clauses, reply_clauses, begin_clauses, commit_clauses, end_clauses, refresh_clauses, refusal};
 ghost use Rattle.dm_model.specs.Attempts.{routed_txn};
 ghost use Rattle.dm_model.specs.Clauses.{first};
 ghost use Rattle.dm_model.specs.Legal.{Legal};
-ghost use Rattle.dm_model.specs.Shape.{is_key, is_said};
+ghost use Rattle.dm_model.specs.Shape.{is_key, is_said, is_site};
 ghost use Rattle.dm_plain.specs.Judging.{is_judged, away};
 
-use crate::acts::entry_count;
+use crate::acts::{entry_at, entry_count};
 use crate::attempts::{attempt, declared, replies, routed_txn, routes};
 use crate::doubts::is_down;
-use crate::fitting::{body_fits, has_writes, undeclared_in};
+use crate::fitting::{body_fits, has_writes, reads_fit, undeclared_in};
 use crate::outcomes::may_say;
 use crate::placings::{may_begin_now, placing};
-use crate::progress::site_vector;
-use crate::rows::{begin_refusal, commit_refusal, reply_refusal, route_refusal};
+use crate::progress::{reached, site_vector};
+use crate::rows::{
+    begin_refusal, commit_refusal, end_refusal, refresh_refusal, reply_refusal, route_refusal,
+};
 use crate::running::{begin_vector, holder, run_site};
 use crate::sessions::session_vector;
 use crate::shape::is_shaped;
 use crate::values::Reading;
 use crate::vectors::first_above;
-use dm_event::{Entry, Key, Part, Said, Schema, SiteNo, Step, TxnId, Vector, Why};
+use dm_event::{Entry, Key, Op, Pair, Part, Said, Schema, SiteNo, Step, TxnId, Vector, Why};
 
 fn route_why(schema: &Schema, steps: &[Step], txn: TxnId, min: &Vector, site: SiteNo) -> Option<Why>
     requires { Legal schema.now steps.now }
@@ -151,8 +153,76 @@ fn commit_why(schema: &Schema, steps: &[Step], entry: &Entry) -> Option<Why>
     )
 }
 
+fn end_why(
+    schema: &Schema,
+    steps: &[Step],
+    site: SiteNo,
+    txn: TxnId,
+    ops: &[Op],
+    reads: &[Pair],
+) -> Option<Why>
+    requires { Legal schema.now steps.now }
+    ensures { result ≡ first (end_clauses schema.now (reverse steps.now) site txn ops.now reads.now) }
+{
+    // What runs has begun.
+    let Some(begin) = begin_vector(steps, txn) else {
+        return Some(Why::NotRunning);
+    };
+    let mut reading = Reading {
+        schema,
+        steps,
+        at: &begin,
+    };
+    end_refusal(
+        run_site(schema, steps, txn),
+        has_writes(ops),
+        reads_fit(ops, reads, &mut reading),
+        site,
+    )
+}
+
+/// The entry of the origin that the site would take over next.
+fn next_entry<'a>(
+    schema: &Schema,
+    steps: &'a [Step],
+    site: SiteNo,
+    origin: SiteNo,
+) -> Option<&'a Entry>
+    requires legal { Legal schema.now steps.now }
+    requires origin { is_site schema.now origin ≡ true }
+    ensures { option_copied result ≡ next_entry schema.now (reverse steps.now) site origin }
+{
+    entry_at(steps, origin, reached(schema, steps, site, origin) + 1)
+}
+
+/// The least site, other than the entry's origin, of which the vector has less than the entry needs.
+fn missing_for(schema: &Schema, vector: &Vector, entry: &Entry) -> Option<SiteNo>
+    ensures { result ≡ missing_for schema.now.sites vector.now entry.now }
+{
+    for site in 1..schema.sites() + 1 {
+        if site != entry.origin && vector.get(site) < entry.begin.get(site) {
+            return Some(site);
+        }
+    }
+    None
+}
+
+fn refresh_why(schema: &Schema, steps: &[Step], site: SiteNo, origin: SiteNo) -> Option<Why>
+    requires legal { Legal schema.now steps.now }
+    requires origin { is_site schema.now origin ≡ true }
+    ensures { result ≡ first (refresh_clauses schema.now (reverse steps.now) site origin) }
+{
+    let next = next_entry(schema, steps, site, origin);
+    let vector = site_vector(schema, steps, site);
+    let behind = match next {
+        Some(entry) => missing_for(schema, &vector, entry),
+        None => None,
+    };
+    refresh_refusal(is_down(steps, site), next.is_some(), behind, site, origin)
+}
+
 /// Why the step may not follow the steps: the first of its shape and its clauses that fails. It judges
-/// a Begin, a Commit, a Reply, and a Route by hand.
+/// a Begin, a Commit, an End, a Refresh, a Reply, and a Route by hand.
 pub fn refusal(schema: &Schema, steps: &[Step], step: &Step) -> Option<Why>
     requires legal { Legal schema.now steps.now }
     requires judged { is_judged step.now ≡ true }
@@ -170,6 +240,13 @@ pub fn refusal(schema: &Schema, steps: &[Step], step: &Step) -> Option<Why>
         } => reply_why(schema, steps, *session, *number, *said),
         Step::Begin { site, txn, begin } => begin_why(schema, steps, *site, *txn, begin),
         Step::Commit { entry } => commit_why(schema, steps, entry),
+        Step::End {
+            site,
+            txn,
+            ops,
+            reads,
+        } => end_why(schema, steps, *site, *txn, ops.as_slice(), reads.as_slice()),
+        Step::Refresh { site, origin } => refresh_why(schema, steps, *site, *origin),
         _ => unreachable!(),
     }
 }

@@ -1,6 +1,6 @@
 //! How far each site has come.
 
-ghost use Rattle.std.specs.Prelude.{◌≡◌, ◌<◌, ◌^◌, [], length, unwrap_or, reverse};
+ghost use Rattle.std.specs.Prelude.{◌≡◌, ◌<◌, ◌≤◌, ◌^◌, [], length, unwrap_or, reverse};
 ghost use Rattle.dm_event.specs.Vectors.{at};
 ghost use Rattle.dm_model.specs.Legal.{Legal};
 ghost use Rattle.dm_model.specs.Progress.{restart_vector, is_restart, is_refresh, reached, site_vector, full};
@@ -59,7 +59,7 @@ fn last_restart(steps: &[Step], site: SiteNo) -> Option<Vector>
 #[tactic(auto, using(crate::proofs::Past::past_more))]
 fn refreshes(steps: &[Step], site: SiteNo, origin: SiteNo) -> u64
     ensures exact { result ≡ count_of (is_refresh site origin) (since (is_restart site) (reverse steps.now)) }
-    ensures memory { length steps.now < 2 ^ 64 }
+    ensures memory { length steps.now < 2 ^ 63 }
 {
     let mut count = 0;
     for step in steps {
@@ -84,9 +84,11 @@ fn component(vector: Option<Vector>, site: SiteNo) -> u64
 }
 
 /// How many transactions of the origin the site has.
-fn reached(schema: &Schema, steps: &[Step], site: SiteNo, origin: SiteNo) -> u64
+pub(crate) fn reached(schema: &Schema, steps: &[Step], site: SiteNo, origin: SiteNo) -> u64
     requires { Legal schema.now steps.now }
-    ensures { result ≡ reached site (reverse steps.now) origin }
+    ensures exact { result ≡ reached site (reverse steps.now) origin }
+    ensures few { result ≤ length steps.now }
+    ensures memory { length steps.now < 2 ^ 63 }
 {
     if site == origin {
         entry_count(steps, site)

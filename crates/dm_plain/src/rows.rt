@@ -1,11 +1,13 @@
 //! The clauses of each kind of step, as functions of what they read of the steps before.
 
-ghost use Rattle.std.specs.Prelude.{◌≡◌, ◌&&◌, ℕ, [], unwrap_or, is_some, true};
+ghost use Rattle.std.specs.Prelude.{◌≡◌, ◌&&◌, ℕ, List, [], unwrap_or, is_some, true};
 ghost use Rattle.dm_event.specs.declared.step.Choice.{Choice};
 ghost use Rattle.dm_event.specs.declared.step.Choice.TheVariants.{Hand};
+ghost use Rattle.dm_event.specs.declared.step.Op.{Op};
+ghost use Rattle.dm_event.specs.declared.step.Pair.{Pair};
 ghost use Rattle.dm_model.specs.Bodies.{Ran, has_writes};
 ghost use Rattle.dm_model.specs.Clauses.{first};
-ghost use Rattle.dm_model.specs.Rows.{may_route, route_row, reply_row, begin_row, commit_row};
+ghost use Rattle.dm_model.specs.Rows.{may_route, route_row, reply_row, begin_row, commit_row, end_row, refresh_row};
 ghost use Rattle.dm_model.specs.Tests.{same_pairs};
 
 use crate::vectors::same_vector;
@@ -135,4 +137,50 @@ pub(crate) fn commit_refusal(
         return Some(Why::WrongBody);
     }
     if writes { None } else { Some(Why::NoWrites) }
+}
+
+/// Why a running attempt may not end as one that wrote nothing.
+pub(crate) fn end_refusal(
+    runs: Option<SiteNo>,
+    writes: bool,
+    fits: bool,
+    site: SiteNo,
+) -> Option<Why>
+    ensures { (ops : List Op) (reads due : List Pair) → writes ≡ has_writes ops → fits ≡ same_pairs reads due → result ≡ first (end_row runs due site ops reads) }
+{
+    let Some(at) = runs else {
+        return Some(Why::NotRunning);
+    };
+    if at != site {
+        return Some(Why::WrongSite { due: at });
+    }
+    if writes {
+        return Some(Why::HasWrites);
+    }
+    if fits { None } else { Some(Why::WrongBody) }
+}
+
+/// Why a site may not take over the origin's next entry.
+pub(crate) fn refresh_refusal(
+    down: bool,
+    next: bool,
+    behind: Option<SiteNo>,
+    site: SiteNo,
+    origin: SiteNo,
+) -> Option<Why>
+    ensures { result ≡ first (refresh_row down next behind site origin) }
+{
+    if site == origin {
+        return Some(Why::Own);
+    }
+    if down {
+        return Some(Why::Down { site });
+    }
+    if !next {
+        return Some(Why::Missing);
+    }
+    match behind {
+        Some(component) => Some(Why::Behind { component }),
+        None => None,
+    }
 }

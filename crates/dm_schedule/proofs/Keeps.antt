@@ -10,7 +10,8 @@ use Rattle.dm_event.specs.declared.step.Step.{Step}
 use Rattle.dm_event.specs.declared.step.TxnId.{TxnId}
 use Rattle.dm_event.specs.declared.step.Want.{Want}
 use Rattle.dm_event.specs.declared.why.Why.{Why}
-use Rattle.dm_schedule.specs.Drive.{Drive, extended, with_ops, judged, ops_of, is_declared, routed_of, running_of, outcome_due, next_txn, route_line, begin_line, get_line, write_line, commit_line, reply_line, by_line}
+use Rattle.dm_model.specs.Bodies.{has_writes}
+use Rattle.dm_schedule.specs.Drive.{Drive, extended, with_ops, judged, ops_of, is_declared, routed_of, running_of, outcome_due, next_txn, route_line, begin_line, get_line, write_line, commit_line, reply_line, refresh_line, by_line}
 use Rattle.dm_schedule.specs.declared.answer.Answer.{Answer}
 use Rattle.dm_schedule.specs.declared.driving.Run.{Run}
 use Rattle.dm_schedule.specs.declared.line.Line.{Line}
@@ -58,7 +59,10 @@ by_write d c key op answer (Some run) = chosen (length (ops_of d c) == 64) d _ _
 
 by_commit : (d : Drive) (c : ℕ) (run : Option Run) → Keeps d (commit_line d c run).0
 by_commit d c None = same d
-by_commit d c (Some run) = by_why _ d _ _ (longer d _)
+by_commit d c (Some run) = chosen (has_writes (ops_of d c)) d _ _ (by_why _ d _ _ (longer d _)) (by_why _ d _ _ (longer d _))
+
+by_refresh : (d : Drive) (site origin : ℕ) → Keeps d (refresh_line d site origin).0
+by_refresh d site origin = by_why _ d _ _ (longer d _)
 
 by_reply : (d : Drive) (c number : ℕ) (said : Option Said) → Keeps d (reply_line d c number said).0
 by_reply d c number None = same d
@@ -74,3 +78,4 @@ line_keeps d (lines.Put c key value) = by_write d c key _ _ (running_of d c)
 line_keeps d (lines.Add c key by) = by_write d c key _ _ (running_of d c)
 line_keeps d (lines.Commit c) = by_commit d c (running_of d c)
 line_keeps d (lines.Reply c) = by_reply d c (next_txn d c).number (outcome_due d c)
+line_keeps d (lines.Refresh site origin) = by_refresh d site origin

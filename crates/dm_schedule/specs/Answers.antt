@@ -20,6 +20,8 @@ answer_text past answers.Put = codes "put\n"
 answer_text past answers.Added = codes "added\n"
 answer_text past (answers.Committed site seq vector) =
     codes "committed " ++ (decimal site ++ (codes "." ++ (decimal seq ++ (codes " " ++ (vector_text vector ++ codes "\n")))))
+answer_text past (answers.Ended begin) = codes "ended " ++ (vector_text begin ++ codes "\n")
 answer_text past (answers.Replied session number said) = reply_text past session number said
+answer_text past (answers.Refreshed site vector) = codes "refreshed " ++ (decimal site ++ (codes " " ++ (vector_text vector ++ codes "\n")))
 answer_text past (answers.Refused why) = codes "refused " ++ (why_text why ++ codes "\n")
 answer_text past answers.RefusedOps = codes "refused ops\n"

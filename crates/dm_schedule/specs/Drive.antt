@@ -11,14 +11,14 @@ use Rattle.dm_event.specs.declared.step.Op.{Op}
 use Rattle.dm_event.specs.declared.step.Op.TheVariants as ops
 use Rattle.dm_event.specs.declared.step.Said.{Said}
 use Rattle.dm_event.specs.declared.step.Step.{Step}
-use Rattle.dm_event.specs.declared.step.Step.TheVariants.{Route, Begin, Commit, Reply}
+use Rattle.dm_event.specs.declared.step.Step.TheVariants.{Route, Begin, Commit, End, Refresh, Reply}
 use Rattle.dm_event.specs.declared.step.TxnId.{TxnId}
 use Rattle.dm_event.specs.declared.step.Want.{Want}
 use Rattle.dm_event.specs.declared.why.Why.{Why}
 use Rattle.dm_event.specs.declared.why.Why.TheVariants as why
 use Rattle.dm_model.specs.Allowed.{refusal}
 use Rattle.dm_model.specs.Attempts.{attempt, declared, replies, routes, wanted_keys}
-use Rattle.dm_model.specs.Bodies.{ran_at, read_value}
+use Rattle.dm_model.specs.Bodies.{has_writes, ran_at, read_value}
 use Rattle.dm_model.specs.Choices.{choice_due}
 use Rattle.dm_model.specs.Outcomes.{said_due}
 use Rattle.dm_model.specs.Progress.{entry_count, site_vector}
@@ -126,6 +126,10 @@ entry_due d c run =
       writes = ran.writes;
     }
 
+-- the End of the ops so far
+unfoldable pub end_due : Drive → ℕ → Run → Step
+end_due d c run = End run.site run.txn (ops_of d c) (ran_at d.layout (past d) run.begin (ops_of d c)).reads
+
 unfoldable pub outcome_due : Drive → ℕ → Option Said
 outcome_due d c = said_due d.layout (past d) c
 
@@ -157,16 +161,26 @@ write_line d c key op answer (Some run) =
     else (if is_declared d run.txn key then (with_ops d c (ops_of d c ++ op ∷ []), answer)
     else (d, answers.Refused (why.Undeclared key)))
 
+abbrev pub commit_of : Drive → Entry → Drive × Answer
+commit_of d entry = judged (refusal_of d (Commit entry)) d (extended d (Commit entry)) (answers.Committed entry.origin entry.seq (commit_vector entry))
+
+abbrev pub end_of : Drive → Step → List ℕ → Drive × Answer
+end_of d step begin = judged (refusal_of d step) d (extended d step) (answers.Ended begin)
+
+-- an attempt that wrote nothing ends, and has no entry
 abbrev pub commit_line : Drive → ℕ → Option Run → Drive × Answer
 commit_line d c None = (d, answers.Refused why.NotRunning)
-commit_line d c (Some run) =
-    let entry = entry_due d c run in
-    judged (refusal_of d (Commit entry)) d (extended d (Commit entry)) (answers.Committed entry.origin entry.seq (commit_vector entry))
+commit_line d c (Some run) = if has_writes (ops_of d c) then commit_of d (entry_due d c run) else end_of d (end_due d c run) run.begin
 
 abbrev pub reply_line : Drive → ℕ → ℕ → Option Said → Drive × Answer
 reply_line d c number None = (d, answers.Refused why.WrongSaid)
 reply_line d c number (Some said) =
     judged (refusal_of d (Reply c number said)) d (extended d (Reply c number said)) (answers.Replied c number said)
+
+abbrev pub refresh_line : Drive → ℕ → ℕ → Drive × Answer
+refresh_line d site origin =
+    let next = extended d (Refresh site origin) in
+    judged (refusal_of d (Refresh site origin)) d next (answers.Refreshed site (vector_of next site))
 
 -- what a command line brings, and its answer
 unfoldable pub by_line : Drive → Line → Drive × Answer
@@ -178,6 +192,7 @@ by_line d (lines.Put c key value) = write_line d c key (ops.Write key value) ans
 by_line d (lines.Add c key by) = write_line d c key (ops.Add key by) answers.Added (running_of d c)
 by_line d (lines.Commit c) = commit_line d c (running_of d c)
 by_line d (lines.Reply c) = reply_line d c (next_txn d c).number (outcome_due d c)
+by_line d (lines.Refresh site origin) = refresh_line d site origin
 
 -- the text of the answer
 unfoldable pub answer_of : Drive × Answer → List ℕ

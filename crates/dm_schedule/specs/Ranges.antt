@@ -5,7 +5,7 @@ use Rattle.dm_event.specs.Layout.{Layout, key_count, is_between}
 use Rattle.dm_event.specs.declared.step.Want.{Want}
 use Rattle.dm_event.specs.declared.step.Want.TheVariants.{Txn, Place, Restart}
 use Rattle.dm_schedule.specs.declared.line.Line.{Line}
-use Rattle.dm_schedule.specs.declared.line.Line.TheVariants.{Route, Begin, Get, Put, Add, Commit, Reply}
+use Rattle.dm_schedule.specs.declared.line.Line.TheVariants.{Route, Begin, Get, Put, Add, Commit, Reply, Refresh}
 
 abbrev pub is_session : ℕ → Bool
 is_session c = is_between 1 32 c
@@ -24,10 +24,13 @@ are_keys layout keys = list_all (λ k. is_key layout k) keys
 abbrev pub IsSession : ℕ → Type 0
 IsSession c = (1 ≤ c) × (c ≤ 32)
 
+abbrev pub IsSite : Layout → ℕ → Type 0
+IsSite layout i = (1 ≤ i) × (i ≤ layout.sites)
+
 -- so far each Route names its site
 abbrev pub FitsSite : Layout → Option ℕ → Type 0
 FitsSite layout None = ⊥
-FitsSite layout (Some i) = (1 ≤ i) × (i ≤ layout.sites)
+FitsSite layout (Some i) = IsSite layout i
 
 abbrev pub FitsWant : Layout → Want → Type 0
 FitsWant layout (Txn keys) = All (λ k. k < key_count layout) keys
@@ -43,3 +46,4 @@ Fits layout (Put session key value) = IsSession session × (key < key_count layo
 Fits layout (Add session key by) = IsSession session × (key < key_count layout)
 Fits layout (Commit session) = IsSession session
 Fits layout (Reply session) = IsSession session
+Fits layout (Refresh site origin) = IsSite layout site × IsSite layout origin

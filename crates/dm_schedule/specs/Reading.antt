@@ -1,9 +1,9 @@
 -- How a line of a step file is read: by its words, for what it says or its first fault. The faults come in the order word,
 -- count, number, range, repeat.
-use Rattle.std.specs.Prelude.{ℕ, ℤ, ◌+◌, ◌-◌, ◌^◌, List, [], length, drop, Option, Some, None, Result, Ok, Err, Bool, true, ◌==◌, ◌&&◌, nat_le, codes, if◌then◌else◌}
+use Rattle.std.specs.Prelude.{ℕ, ℤ, ◌+◌, ◌-◌, ◌^◌, List, [], length, drop, Option, Some, None, Result, Ok, Err, Bool, true, ◌==◌, ◌&&◌, ◌||◌, nat_le, codes, if◌then◌else◌}
 use Rattle.std.specs.Str.{bytes_eq}
 use Rattle.dm_event.specs.Ascending.{ascending}
-use Rattle.dm_event.specs.Layout.{Layout, within_limits}
+use Rattle.dm_event.specs.Layout.{Layout, within_limits, is_between}
 use Rattle.dm_event.specs.declared.schema.Weights.{Weights}
 use Rattle.dm_event.specs.declared.step.Want.TheVariants as want
 use Rattle.dm_event.specs.declared.why.LineFault.{LineFault}
@@ -52,12 +52,16 @@ declared_of layout keys = do
   range ← check Range (are_keys layout keys)
   or_fault Repeat (ascending keys)
 
--- `route S at I keys K ..`, with 1 to 32 keys
+-- four words, or 1 to 32 keys behind the word `keys`
+unfoldable pub route_count : Words → Result (Unit {0}) LineFault
+route_count ws = check Count ((length ws == 4) || is_between (5 + 1) (5 + 32) (length ws))
+
+-- `route S at I keys K ..`, or `route S at I` where no key is declared
 unfoldable pub route_of : Layout → Words → Result Line LineFault
 route_of layout ws = do
   at ← fixed ws 2 (codes "at")
   keys ← fixed ws 4 (codes "keys")
-  count ← counted ws (5 + 1) (5 + 32)
+  count ← route_count ws
   session ← u32_at ws 1
   site ← u8_at ws 3
   keys ← numbers_from [] (2 ^ 32 - 1) (drop 5 ws)
@@ -95,6 +99,16 @@ write_of layout ws = do
   range ← check Range (is_key layout key)
   Ok (session, key, number)
 
+-- `refresh I J`
+unfoldable pub refresh_of : Layout → Words → Result Line LineFault
+refresh_of layout ws = do
+  count ← counted ws 3 3
+  site ← u8_at ws 1
+  origin ← u8_at ws 2
+  range ← check Range (is_site layout site)
+  range ← check Range (is_site layout origin)
+  Ok (line.Refresh site origin)
+
 -- the command that the first word names
 unfoldable pub line_of : Layout → Words → Result Line LineFault
 line_of layout ws =
@@ -105,4 +119,5 @@ line_of layout ws =
     else (if bytes_eq (word_at ws 0) (codes "add") then made (λ w. line.Add w.0 w.1 w.2) (write_of layout ws)
     else (if bytes_eq (word_at ws 0) (codes "commit") then made (λ session. line.Commit session) (session_of ws)
     else (if bytes_eq (word_at ws 0) (codes "reply") then made (λ session. line.Reply session) (session_of ws)
-    else Err Word))))))
+    else (if bytes_eq (word_at ws 0) (codes "refresh") then refresh_of layout ws
+    else Err Word)))))))

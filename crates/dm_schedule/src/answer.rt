@@ -39,10 +39,18 @@ pub(crate) enum Answer {
         /// The commit vector.
         vector: Vector,
     },
+    Ended {
+        begin: Vector,
+    },
     Replied {
         session: u32,
         number: u32,
         said: Said,
+    },
+    Refreshed {
+        site: SiteNo,
+        /// The site's vector with the transaction.
+        vector: Vector,
     },
     /// Why the line's step may not come.
     Refused(Why),
@@ -116,11 +124,19 @@ pub(crate) fn put_answer(
                 &format!(in alloc; "committed {site}.{seq} {vector}\n")?,
             )
         }
+        Answer::Ended { begin } => {
+            let begin = VectorText(&begin);
+            append(out, &format!(in alloc; "ended {begin}\n")?)
+        }
         Answer::Replied {
             session,
             number,
             said,
         } => put_reply(alloc, out, book, session, number, &said),
+        Answer::Refreshed { site, vector } => {
+            let vector = VectorText(&vector);
+            append(out, &format!(in alloc; "refreshed {site} {vector}\n")?)
+        }
         Answer::Refused(why) => put_refused(alloc, out, &why),
         Answer::RefusedOps => append(out, "refused ops\n"),
     }

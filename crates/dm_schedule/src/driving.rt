@@ -3,7 +3,7 @@
 ghost use Rattle.std.specs.Prelude.{◌≡◌, ◌+◌, ◌<◌, ◌≤◌, ◌^◌, ◌-◌, true, None, Ok, All, IfOk, OnOk, length, vec_len};
 ghost use Rattle.dm_model.specs.Shape.{is_shaped};
 ghost use Rattle.dm_plain.specs.Judging.{is_judged};
-ghost use Rattle.dm_schedule.specs.Drive.{start, refusal_of, pushed, next_txn, least_due, vector_of, routed_at, routed_of, running_of, is_declared, value_due, entry_due, outcome_due, ops_of, route_line, begin_line, get_line, write_line, commit_line, reply_line, by_line, answer_of, drive_of, answers_of};
+ghost use Rattle.dm_schedule.specs.Drive.{start, refusal_of, pushed, next_txn, least_due, vector_of, routed_at, routed_of, running_of, is_declared, value_due, entry_due, end_due, outcome_due, ops_of, route_line, begin_line, get_line, write_line, commit_of, end_of, commit_line, reply_line, refresh_line, by_line, answer_of, drive_of, answers_of};
 ghost use Rattle.dm_schedule.specs.Driver.{seen};
 ghost use Rattle.dm_schedule.specs.Ranges.{Fits, IsSession};
 ghost use Rattle.dm_text.specs.Text.{Appends};
@@ -19,7 +19,7 @@ use dm_event::{
     Attempt, AttemptState, Choice, Entry, Key, NoMemory, Op, Said, Schema, SiteNo, Step, TxnId,
     Value, Vector, Want, Why,
 };
-use dm_plain::{Reading, begin_vector, declared, entry_count, replies, routes};
+use dm_plain::{Reading, begin_vector, declared, entry_count, has_writes, replies, routes};
 use std::alloc::Global;
 
 /// An attempt that runs.
@@ -184,6 +184,29 @@ impl Driver {
         })
     }
 
+    /// The End of the ops so far.
+    #[tactic(auto, unfolding(crate::specs::Drive::end_due))]
+    fn end_due(&self, alloc: Global, session: u32, run: &Run) -> Result<Step, NoMemory>
+        requires session { IsSession session }
+        requires ops { vec_len self.now.ops ≡ 32 }
+        ensures end { IfOk result (λ step. step ≡ end_due (seen self.now) session run.now) }
+        ensures judged { IfOk result (λ step. is_judged step ≡ true) }
+    {
+        let mut reading = Reading {
+            schema: self.book.schema(),
+            steps: self.book.steps(),
+            at: &run.begin,
+        };
+        let done = self.ops[session as usize - 1].as_slice();
+        let Ran { ops, reads, .. } = replay(alloc, done, &mut reading)?.into_ran();
+        Ok(Step::End {
+            site: run.site,
+            txn: run.txn,
+            ops,
+            reads,
+        })
+    }
+
     #[tactic(auto, unfolding(crate::specs::Drive::outcome_due))]
     fn outcome_due(&self, session: u32) -> Option<Said>
         ensures { result ≡ outcome_due (seen self.now) session }
@@ -272,23 +295,43 @@ impl Driver {
     }
 
     #[tactic(auto, using(crate::proofs::Shapes::entry_sized))]
+    fn commit_entry(&mut self, entry: Entry) -> Result<Answer, NoMemory>
+        ensures { IfOk result (λ a. (seen self.new, a) ≡ commit_of (seen self.old) entry) }
+    {
+        let (site, seq, mut vector) = (entry.origin, entry.seq, entry.begin);
+        match self.push(Step::Commit { entry })? {
+            None => {
+                vector.set(site, seq);
+                Ok(Answer::Committed { site, seq, vector })
+            }
+            Some(why) => Ok(Answer::Refused(why)),
+        }
+    }
+
+    /// Ends an attempt that began at this vector.
+    fn end(&mut self, end: Step, begin: Vector) -> Result<Answer, NoMemory>
+        requires { is_judged end ≡ true }
+        ensures { IfOk result (λ a. (seen self.new, a) ≡ end_of (seen self.old) end begin) }
+    {
+        match self.push(end)? {
+            None => Ok(Answer::Ended { begin }),
+            Some(why) => Ok(Answer::Refused(why)),
+        }
+    }
+
     fn commit(&mut self, alloc: Global, session: u32) -> Result<Answer, NoMemory>
         requires session { IsSession session }
         requires ops { vec_len self.old.ops ≡ 32 }
         ensures { IfOk result (λ a. (seen self.new, a) ≡ commit_line (seen self.old) session (running_of (seen self.old) session)) }
     {
         match self.running(session) {
-            Some(run) => {
+            Some(run) => if has_writes(self.ops[session as usize - 1].as_slice()) {
                 let entry = self.entry_due(alloc, session, &run)?;
-                let (site, seq, mut vector) = (entry.origin, entry.seq, entry.begin);
-                match self.push(Step::Commit { entry })? {
-                    None => {
-                        vector.set(site, seq);
-                        Ok(Answer::Committed { site, seq, vector })
-                    }
-                    Some(why) => Ok(Answer::Refused(why)),
-                }
-            }
+                self.commit_entry(entry)
+            } else {
+                let end = self.end_due(alloc, session, &run)?;
+                self.end(end, run.begin)
+            },
             None => Ok(Answer::Refused(Why::NotRunning)),
         }
     }
@@ -314,6 +357,18 @@ impl Driver {
                 }
             }
             None => Ok(Answer::Refused(Why::WrongSaid)),
+        }
+    }
+
+    fn refresh(&mut self, site: SiteNo, origin: SiteNo) -> Result<Answer, NoMemory>
+        ensures { IfOk result (λ a. (seen self.new, a) ≡ refresh_line (seen self.old) site origin) }
+    {
+        match self.push(Step::Refresh { site, origin })? {
+            None => Ok(Answer::Refreshed {
+                site,
+                vector: self.vector_of(site),
+            }),
+            Some(why) => Ok(Answer::Refused(why)),
         }
     }
 
@@ -355,6 +410,7 @@ impl Driver {
             ),
             Line::Commit { session } => self.commit(alloc, *session),
             Line::Reply { session } => self.reply(*session),
+            Line::Refresh { site, origin } => self.refresh(*site, *origin),
         }
     }
 

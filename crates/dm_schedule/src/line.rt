@@ -32,12 +32,17 @@ pub enum Line {
         key: Key,
         by: i64,
     },
-    /// Commits the session's running attempt.
+    /// Commits the session's running attempt, or ends it where it wrote nothing.
     Commit {
         session: u32,
     },
     /// Answers the session's item.
     Reply {
         session: u32,
+    },
+    /// Applies the origin's next transaction at the site.
+    Refresh {
+        site: SiteNo,
+        origin: SiteNo,
     },
 }

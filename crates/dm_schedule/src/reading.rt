@@ -1,10 +1,10 @@
 //! What a line says, by its words.
 
-ghost use Rattle.std.specs.Prelude.{◌≡◌, ◌≤◌, ◌<◌, All, IfOk, OnOk, IsTrue, length};
+ghost use Rattle.std.specs.Prelude.{◌≡◌, ◌≤◌, ◌<◌, All, IfOk, OnOk, IsTrue, length, drop};
 ghost use Rattle.dm_event.specs.Layout.{is_layout, key_count};
 ghost use Rattle.dm_schedule.specs.Fields.{Gives, spelled};
 ghost use Rattle.dm_schedule.specs.Ranges.{Fits, IsSession, is_session, is_site, is_key, are_keys};
-ghost use Rattle.dm_schedule.specs.Reading.{header_words, header_count, header_of, is_for_parts, declared_of, route_of, session_of, get_of, write_of, line_of};
+ghost use Rattle.dm_schedule.specs.Reading.{header_words, header_count, header_of, is_for_parts, declared_of, route_count, route_of, session_of, get_of, write_of, refresh_of, line_of};
 
 use crate::fault::LineError;
 use crate::fields::{
@@ -112,6 +112,28 @@ fn declared_of(schema: &Schema, keys: Vec<Key>) -> Result<Keys, LineError>
     Keys::new(keys).ok_or(LineError::Fault(LineFault::Repeat))
 }
 
+/// The words from this place on.
+fn words_from<'a>(words: &'a [&'a [u8]], place: usize) -> &'a [&'a [u8]]
+    ensures { result.now ≡ drop place words.now }
+{
+    if place <= words.len() {
+        &words[place..]
+    } else {
+        &[]
+    }
+}
+
+#[tactic(auto, unfolding(crate::specs::Reading::route_count))]
+fn route_count(words: &[&[u8]]) -> Result<(), LineError>
+    ensures { Gives (λ x. x) result (route_count (spelled words.now)) }
+{
+    let count = words.len();
+    require(
+        LineFault::Count,
+        count == 4 || 5 + 1 <= count && count <= 5 + 32,
+    )
+}
+
 #[tactic(auto, unfolding(crate::specs::Reading::route_of))]
 fn route_of(alloc: Global, schema: &Schema, words: &[&[u8]]) -> Result<Line, LineError>
     ensures exact { Gives (λ x. x) result (route_of schema.now (spelled words.now)) }
@@ -119,10 +141,10 @@ fn route_of(alloc: Global, schema: &Schema, words: &[&[u8]]) -> Result<Line, Lin
 {
     fixed(words, 2, b"at")?;
     fixed(words, 4, b"keys")?;
-    counted(words, 5 + 1, 5 + 32)?;
+    route_count(words)?;
     let session = u32_at(words, 1)?;
     let site = u8_at(words, 3)?;
-    let keys = keys_of(alloc, &words[5..])?;
+    let keys = keys_of(alloc, words_from(words, 5))?;
     require(LineFault::Range, is_session(session))?;
     require(LineFault::Range, is_site(schema, site))?;
     let declared = declared_of(schema, keys)?;
@@ -172,6 +194,19 @@ fn write_of(schema: &Schema, words: &[&[u8]]) -> Result<(u32, Key, Value), LineE
     Ok((session, key, value))
 }
 
+#[tactic(auto, unfolding(crate::specs::Reading::refresh_of))]
+fn refresh_of(schema: &Schema, words: &[&[u8]]) -> Result<Line, LineError>
+    ensures exact { Gives (λ x. x) result (refresh_of schema.now (spelled words.now)) }
+    ensures fit { IfOk result (λ line. Fits schema.now line) }
+{
+    counted(words, 3, 3)?;
+    let site = u8_at(words, 1)?;
+    let origin = u8_at(words, 2)?;
+    require(LineFault::Range, is_site(schema, site))?;
+    require(LineFault::Range, is_site(schema, origin))?;
+    Ok(Line::Refresh { site, origin })
+}
+
 /// The command that a line says.
 #[tactic(auto, unfolding(crate::specs::Reading::line_of))]
 pub(crate) fn line_of(alloc: Global, schema: &Schema, words: &[&[u8]]) -> Result<Line, LineError>
@@ -202,6 +237,8 @@ pub(crate) fn line_of(alloc: Global, schema: &Schema, words: &[&[u8]]) -> Result
     } else if is(first, b"reply") {
         let session = session_of(words)?;
         Ok(Line::Reply { session })
+    } else if is(first, b"refresh") {
+        refresh_of(schema, words)
     } else {
         Err(LineError::Fault(LineFault::Word))
     }

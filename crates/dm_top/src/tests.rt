@@ -34,6 +34,10 @@ fn source(alloc: Global, fails: &[u64]) -> Result<MemSource, Fail> {
         String::from_str(alloc, "bad")?,
         Vec::from_slice(alloc, b"sites 9")?,
     ))?;
+    files.push((
+        String::from_str(alloc, "long")?,
+        vec![in alloc; 0; 16777217]?,
+    ))?;
     Ok(MemSource::new(files, Vec::from_slice(alloc, fails)?))
 }
 
@@ -59,39 +63,46 @@ fn commands_end_for_their_reasons(rt: HostRuntime) -> Result<(), Fail> {
     let alloc = rt.alloc();
     for (texts, fails, room, text, written) in [
         (
-            ["fly", "one"].as_slice(),
+            ["fly"].as_slice(),
             [].as_slice(),
             1000,
             "bad words",
-            0,
+            b"".as_slice(),
         ),
         (
             ["step", "none"].as_slice(),
             [].as_slice(),
             1000,
             "none: absent",
-            0,
+            b"".as_slice(),
+        ),
+        (
+            ["step", "long"].as_slice(),
+            [].as_slice(),
+            1000,
+            "long: longer than 16777216 bytes",
+            b"".as_slice(),
         ),
         (
             ["step", "bad"].as_slice(),
             [].as_slice(),
             1000,
             "line 1: count",
-            0,
+            b"".as_slice(),
         ),
         (
             ["step", "one"].as_slice(),
             [1].as_slice(),
             1000,
             "read fault",
-            0,
+            b"".as_slice(),
         ),
         (
             ["step", "header"].as_slice(),
             [].as_slice(),
             10,
             "write fault",
-            10,
+            b"moves 0\nsi".as_slice(),
         ),
     ] {
         let mut source = source(alloc, fails)?;
@@ -104,7 +115,7 @@ fn commands_end_for_their_reasons(rt: HostRuntime) -> Result<(), Fail> {
         );
         drop(history);
         assert_eq!(rt; status_text(alloc, &status)?.as_slice(), text.as_bytes());
-        assert_eq!(rt; sink.written().len(), written, "{text}");
+        assert_eq!(rt; sink.written(), written, "{text}");
     }
     Ok(())
 }

@@ -58,7 +58,17 @@ fn lines_are_answered(rt: HostRuntime) -> Result<(), Fail> {
         (
             "route 1 at 1 keys 3\nbegin 1\nput 1 4 5\nadd 1 4 5\nget 1 4\ncommit 1\nreply 1\n",
             "routed 1.1.1 to 1 hand\nbegun 1.1.1 at 1 [0 0]\nrefused undeclared 4\n\
-            refused undeclared 4\nvalue 0\nrefused no writes\nrefused said\n",
+            refused undeclared 4\nvalue 0\nended [0 0]\nreply 1 1 read at 1 [0 0] reads 4:0\n",
+        ),
+        // a reader that declares nothing ends once, and a site takes over each transaction once
+        (
+            "route 1 at 2\nbegin 1\nput 1 3 5\ncommit 1\ncommit 1\nreply 1\nreply 1\n\
+            route 2 at 2 keys 15\nbegin 2\nput 2 15 5\ncommit 2\nrefresh 2 2\nrefresh 1 2\n\
+            refresh 1 2\n",
+            "routed 1.1.1 to 2 hand\nbegun 1.1.1 at 2 [0 0]\nrefused undeclared 3\nended [0 0]\n\
+            refused not running\nreply 1 1 read at 2 [0 0] reads -\nrefused said\n\
+            routed 2.1.1 to 2 hand\nbegun 2.1.1 at 2 [0 0]\nput\ncommitted 2.1 [0 1]\n\
+            refused own\nrefreshed 1 [0 1]\nrefused missing\n",
         ),
         (
             "begin 1\nget 1 3\nput 1 3 5\nadd 1 3 5\ncommit 1\nreply 1\n\

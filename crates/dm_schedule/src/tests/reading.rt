@@ -22,7 +22,7 @@ fn a_file_is_read(rt: HostRuntime) -> Result<(), Fail> {
     let alloc = rt.alloc();
     let text = "# both sites\n\n\tsites 2  parts 2 width 16 masters 1 2\r\n\
         route 1 at 2 keys 31 3 \t15\n#begin 2\nbegin 1\nget 1 3\n put 1 31 -7\n\
-        add 32 0 -9223372036854775808\n \t\ncommit 1\nreply 1";
+        add 32 0 -9223372036854775808\n \t\ncommit 1\nrefresh 2 1\nroute 2 at 1\nreply 1";
     let schedule = read(alloc, text.as_bytes()).map_err(|_| "a good file")?;
     let found = format!(in alloc; "{schedule:?}")?;
     let want = "Schedule { schema: Schema { sites: 2, width: 16, masters: [1, 2], \
@@ -30,6 +30,8 @@ fn a_file_is_read(rt: HostRuntime) -> Result<(), Fail> {
         lines: [Route { session: 1, want: Txn(Keys { list: [3, 15, 31] }), site: Some(2) }, \
         Begin { session: 1 }, Get { session: 1, key: 3 }, Put { session: 1, key: 31, value: -7 }, \
         Add { session: 32, key: 0, by: -9223372036854775808 }, Commit { session: 1 }, \
+        Refresh { site: 2, origin: 1 }, \
+        Route { session: 2, want: Txn(Keys { list: [] }), site: Some(1) }, \
         Reply { session: 1 }] }";
     assert_eq!(rt; found.as_str(), want);
     let most = format!(in alloc; "{HEADER}route 1 at 1 keys {ALL}")?;
@@ -71,11 +73,11 @@ fn a_command_has_its_first_fault(rt: HostRuntime) -> Result<(), Fail> {
     for (text, line, kind) in [
         ("begin 1\nfly 1\nbegin 33\n", 3, Word),
         ("sites 2 parts 2 width 16 masters 1 2", 2, Word),
-        ("refresh 1 2", 2, Word),
+        ("release 0", 2, Word),
         ("route x keys 3", 2, Word),
         ("route 1 at x kyes", 2, Word),
         ("route", 2, Count),
-        ("route x at 1", 2, Count),
+        ("route x at", 2, Count),
         ("route 1 at 1 keys", 2, Count),
         ("begin", 2, Count),
         ("begin x 1", 2, Count),
@@ -84,6 +86,8 @@ fn a_command_has_its_first_fault(rt: HostRuntime) -> Result<(), Fail> {
         ("add 1 3 5 x", 2, Count),
         ("commit 1 1", 2, Count),
         ("reply", 2, Count),
+        ("refresh 3", 2, Count),
+        ("refresh x 1 2", 2, Count),
         ("route 33 at 256 keys 3", 2, Number),
         ("route 1 at 3 keys 3 +3", 2, Number),
         ("begin x", 2, Number),
@@ -93,6 +97,8 @@ fn a_command_has_its_first_fault(rt: HostRuntime) -> Result<(), Fail> {
         ("add 1 3 9223372036854775808", 2, Number),
         ("commit 01", 2, Number),
         ("reply 4294967296", 2, Number),
+        ("route x at 1", 2, Number),
+        ("refresh 3 256", 2, Number),
         ("route 1 at 3 keys 3 3", 2, Range),
         ("route 0 at 1 keys 3 3", 2, Range),
         ("route 1 at 1 keys 3 3 32", 2, Range),
@@ -102,6 +108,9 @@ fn a_command_has_its_first_fault(rt: HostRuntime) -> Result<(), Fail> {
         ("add 1 32 5", 2, Range),
         ("commit 0", 2, Range),
         ("reply 33", 2, Range),
+        ("route 1 at 3", 2, Range),
+        ("refresh 3 1", 2, Range),
+        ("refresh 1 0", 2, Range),
         ("route 1 at 1 keys 3 4 3", 2, Repeat),
     ] {
         let file = format!(in alloc; "{HEADER}{text}")?;

@@ -1,4 +1,4 @@
-use Rattle.std.proofs.Common.{◌≡◌, ◌+◌, ℕ, List, Option, Some, None, ap, sym, ◌∙◌, refl, subst, arith, inl, inr, length, take, drop, []}
+use Rattle.std.proofs.Common.{Option, ap, ◌∙◌}
 use Rattle.std.specs.Prelude.{reverse, option_to_list}
 use Rattle.dm_event.specs.declared.step.Entry.{Entry}
 use Rattle.dm_event.specs.declared.step.Pending.{Pending}

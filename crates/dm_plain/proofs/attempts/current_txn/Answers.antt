@@ -1,4 +1,4 @@
-use Rattle.std.proofs.Common.{◌≡◌, ℕ, List, Option, Some, None, ap, sym, ◌∙◌, refl, subst, arith, reverse}
+use Rattle.std.proofs.Common.{List, ap, ◌∙◌, reverse}
 use Rattle.dm_event.specs.declared.step.Step.{Step}
 use Rattle.dm_model.specs.Words.{latest, since}
 use Rattle.dm_model.specs.Attempts.{is_reply}

@@ -1,6 +1,6 @@
-use Rattle.std.proofs.Common.{◌≡◌, ℕ, List, Option, Some, None, ap, sym, ◌∙◌, refl, subst, arith, reverse}
+use Rattle.std.proofs.Common.{List, ap, ◌∙◌, reverse}
 use Rattle.dm_event.specs.declared.step.Step.{Step}
-use Rattle.dm_model.specs.Words.{latest, since}
+use Rattle.dm_model.specs.Words.{latest}
 use Rattle.dm_plain.specs.Routings.{wanted_by}
 use Rattle.dm_plain.proofs.Past.{past_whole}
 use Rattle.dm_plain.proofs.Routings.{wanted_last}

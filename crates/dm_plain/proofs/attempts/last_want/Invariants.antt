@@ -1,6 +1,6 @@
 use Rattle.std.proofs.Common.{◌≡◌, take}
-use Rattle.std.specs.Prelude.{reverse, option_copied, option_map}
-use Rattle.dm_model.specs.Words.{latest, since, count_of}
+use Rattle.std.specs.Prelude.{reverse, option_copied}
+use Rattle.dm_model.specs.Words.{latest}
 use Rattle.dm_plain.specs.Routings.{wanted_by}
 use Rattle.dm_plain.proofs.attempts.last_want.Given as goal
 

@@ -1,6 +1,5 @@
-use Rattle.std.proofs.Common.{◌≡◌, ◌<◌, ◌≤◌, ◌+◌, ℕ, take, length, get_or, drop}
-use Rattle.std.specs.Prelude.{reverse, option_copied, option_map, ◌==◌, filter_map, filter, false, slice_get}
-use Rattle.dm_model.specs.Words.{latest, since, count_of}
+use Rattle.std.proofs.Common.{◌≡◌, ◌≤◌, take}
+use Rattle.std.specs.Prelude.{reverse}
 use Rattle.dm_model.specs.Attempts.{replies}
 use Rattle.dm_plain.proofs.attempts.replies.Given as goal
 

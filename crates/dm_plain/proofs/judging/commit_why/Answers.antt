@@ -1,4 +1,4 @@
-use Rattle.std.proofs.Common.{◌≡◌, ◌+◌, ◌-◌, ◌<◌, ◌≤◌, ℕ, List, Option, Some, None, ap, sym, ◌∙◌, refl, subst, arith, inl, inr, length, take, drop, get_or, Bool, true, false, not}
+use Rattle.std.proofs.Common.{ℕ, List, Option, ap, sym, ◌∙◌, arith}
 use Rattle.std.specs.Prelude.{reverse, is_some}
 use Rattle.dm_model.specs.Bodies.{ran_at}
 use Rattle.dm_plain.proofs.Legality.{runner_began}

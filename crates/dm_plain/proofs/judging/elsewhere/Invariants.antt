@@ -1,4 +1,4 @@
-use Rattle.std.proofs.Common.{◌≡◌, ◌+◌, ◌-◌, ◌<◌, ◌≤◌, ℕ, List, Option, Some, None, ap, sym, ◌∙◌, refl, subst, arith, inl, inr, length, take, drop, get_or, Bool, true, false, not}
+use Rattle.std.proofs.Common.{◌≡◌, drop}
 use Rattle.std.specs.Prelude.{reverse}
 use Rattle.dm_plain.proofs.Elsewhere.{left}
 use Rattle.dm_plain.proofs.judging.elsewhere.Given as goal

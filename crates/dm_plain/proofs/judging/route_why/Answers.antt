@@ -1,4 +1,3 @@
-use Rattle.std.proofs.Common.{◌≡◌, ◌+◌, ◌-◌, ◌<◌, ◌≤◌, ℕ, List, Option, Some, None, ap, sym, ◌∙◌, refl, subst, arith, inl, inr, length, take, drop, get_or, Bool, true, false, not}
 use Rattle.std.specs.Prelude.{reverse}
 use Rattle.dm_model.specs.Choices.{due_for}
 use Rattle.dm_plain.proofs.judging.route_why.Goals as goal

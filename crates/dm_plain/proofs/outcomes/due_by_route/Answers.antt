@@ -1,4 +1,4 @@
-use Rattle.std.proofs.Common.{◌≡◌, ◌+◌, ℕ, List, Option, Some, None, ap, sym, ◌∙◌, refl, subst, arith, inl, inr, length, take, drop, []}
+use Rattle.std.proofs.Common.{sym}
 use Rattle.std.specs.Prelude.{reverse}
 use Rattle.dm_plain.proofs.Legality.{wanted_fits}
 use Rattle.dm_plain.proofs.outcomes.due_by_route.Goals as goal

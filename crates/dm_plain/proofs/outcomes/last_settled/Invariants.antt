@@ -1,5 +1,5 @@
-use Rattle.std.proofs.Common.{◌≡◌, ◌<◌, ◌≤◌, ◌+◌, ℕ, take, length, get_or, drop}
-use Rattle.std.specs.Prelude.{reverse, option_copied, option_map, ◌==◌, filter_map, filter, false, slice_get}
+use Rattle.std.proofs.Common.{◌≡◌, take}
+use Rattle.std.specs.Prelude.{reverse, slice_get}
 use Rattle.dm_model.specs.Outcomes.{settled_epochs}
 use Rattle.dm_plain.proofs.outcomes.last_settled.Given as goal
 

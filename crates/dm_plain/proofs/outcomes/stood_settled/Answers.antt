@@ -1,5 +1,5 @@
-use Rattle.std.proofs.Common.{◌≡◌, ◌+◌, ℕ, List, Option, Some, None, ap, sym, ◌∙◌, refl, subst, arith, inl, inr, length, take, drop, Bool, not}
-use Rattle.std.specs.Prelude.{reverse, ◌||◌, ◌&&◌, option_to_list}
+use Rattle.std.proofs.Common.{ℕ, Option, ap, sym, ◌∙◌}
+use Rattle.std.specs.Prelude.{option_to_list}
 use Rattle.dm_event.specs.declared.placing.Placing.{Placing}
 use Rattle.dm_model.specs.Outcomes.{settled_epoch}
 use Rattle.dm_model.specs.Tests.{is_among}

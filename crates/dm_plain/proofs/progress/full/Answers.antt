@@ -1,5 +1,5 @@
-use Rattle.std.proofs.Common.{◌≡◌, ℕ, List, Option, Some, None, ap, sym, ◌∙◌, refl, subst, arith, reverse}
-use Rattle.dm_model.specs.Progress.{entry_count, reached}
+use Rattle.std.proofs.Common.{arith, reverse}
+use Rattle.dm_model.specs.Progress.{entry_count}
 use Rattle.dm_plain.proofs.Components.{vector_is}
 use Rattle.dm_plain.proofs.progress.full.Goals as goal
 

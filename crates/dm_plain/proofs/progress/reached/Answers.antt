@@ -1,4 +1,4 @@
-use Rattle.std.proofs.Common.{◌≡◌, ◌+◌, ℕ, List, Option, Some, None, ap, sym, ◌∙◌, refl, subst, arith, inl, inr, length, take, drop, []}
+use Rattle.std.proofs.Common.{◌≡◌, ℕ, List, Option, ap, arith, length, []}
 use Rattle.std.specs.Prelude.{reverse}
 use Rattle.std.specs.Prelude.{unwrap_or}
 use Rattle.std.proofs.lemmas.List.{length-reverse}
@@ -12,3 +12,10 @@ overflow_add-result c =
     let long : length (reverse c.args.steps.now) ≡ length c.args.steps.now = length-reverse c.args.steps.now in
     let set = ap (λ (o : Option (List ℕ)). at (unwrap_or o []) c.args.origin) c.last_restart.ensures in
     omega (arith, few, long, set, c.component.ensures, c.refreshes.ensures.memory, c.refreshes.ensures.exact)
+
+pub returns-else-site-origin-clause-few : goal.returns-else-site-origin-clause-few
+returns-else-site-origin-clause-few c =
+    let few = refreshed_few c.args.schema.now (reverse c.args.steps.now) c.requires c.args.site c.args.origin c.if-site-origin.false in
+    let long : length (reverse c.args.steps.now) ≡ length c.args.steps.now = length-reverse c.args.steps.now in
+    let set = ap (λ (o : Option (List ℕ)). at (unwrap_or o []) c.args.origin) c.last_restart.ensures in
+    omega (arith, few, long, set, c.component.ensures, c.refreshes.ensures.exact)

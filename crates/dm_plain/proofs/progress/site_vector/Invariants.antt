@@ -1,5 +1,5 @@
-use Rattle.std.proofs.Common.{◌≡◌, ◌<◌, ◌≤◌, ◌+◌, ℕ, take, length, get_or, drop}
-use Rattle.std.specs.Prelude.{reverse, option_copied, option_map, ◌==◌, filter_map, filter, false, slice_get}
+use Rattle.std.proofs.Common.{◌≡◌, ◌<◌, ◌≤◌, ℕ, length}
+use Rattle.std.specs.Prelude.{reverse}
 use Rattle.dm_event.specs.Vectors.{at}
 use Rattle.dm_model.specs.Progress.{reached}
 use Rattle.dm_plain.proofs.progress.site_vector.Given as goal

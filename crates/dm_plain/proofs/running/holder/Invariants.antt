@@ -1,5 +1,5 @@
-use Rattle.std.proofs.Common.{◌≡◌, ◌<◌, ◌≤◌, ◌+◌, ℕ, take, length, get_or, drop}
-use Rattle.std.specs.Prelude.{reverse, option_copied, option_map, ◌==◌, filter_map, filter, false, slice_get}
+use Rattle.std.proofs.Common.{◌≡◌, drop}
+use Rattle.std.specs.Prelude.{reverse, filter_map, filter}
 use Rattle.dm_model.specs.Allowed.{holder_among}
 use Rattle.dm_model.specs.Runs.{runs, begun_at}
 use Rattle.dm_event.specs.declared.step.TxnId.{TxnId}

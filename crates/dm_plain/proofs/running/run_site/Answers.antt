@@ -1,6 +1,5 @@
-use Rattle.std.proofs.Common.{◌≡◌, ◌+◌, ℕ, List, Option, Some, None, ap, sym, ◌∙◌, refl, subst, arith, inl, inr, length, take, drop}
+use Rattle.std.proofs.Common.{ℕ, ap, sym, ◌∙◌, arith, inl, inr}
 use Rattle.std.specs.Prelude.{reverse}
-use Rattle.std.proofs.Common.{false}
 use Rattle.std.proofs.lemmas.Bool.{cases_eq}
 use Rattle.dm_model.specs.Runs.{runs}
 use Rattle.dm_event.proofs.Sites.{find_first, find_nothing}

@@ -1,6 +1,5 @@
-use Rattle.std.proofs.Common.{◌≡◌, ◌+◌, ℕ, List, Option, Some, None, ap, sym, ◌∙◌, refl, subst, arith, inl, inr, length, take, drop, []}
+use Rattle.std.proofs.Common.{ℕ, List, ap, sym, ◌∙◌, length}
 use Rattle.std.specs.Prelude.{reverse}
-use Rattle.dm_event.specs.Entries.{commit_vector}
 use Rattle.dm_plain.proofs.Legality.{made_entry, long_commit}
 use Rattle.dm_plain.proofs.sessions.committed_vector.Goals as goal
 

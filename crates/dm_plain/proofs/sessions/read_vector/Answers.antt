@@ -1,4 +1,4 @@
-use Rattle.std.proofs.Common.{◌≡◌, ◌+◌, ℕ, List, Option, Some, None, ap, sym, ◌∙◌, refl, subst, arith, inl, inr, length, take, drop, []}
+use Rattle.std.proofs.Common.{◌≡◌, ℕ, List, Option, Some, None, sym, ◌∙◌, refl, length}
 use Rattle.std.specs.Prelude.{reverse}
 use Rattle.std.specs.Prelude.{IfSome}
 use Rattle.dm_plain.proofs.Legality.{long_begin}

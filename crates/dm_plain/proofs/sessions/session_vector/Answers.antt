@@ -1,9 +1,9 @@
-use Rattle.std.proofs.Common.{◌≡◌, ◌+◌, ℕ, List, Option, Some, None, ap, sym, ◌∙◌, refl, subst, arith, inl, inr, length, take, drop, Bool, not}
+use Rattle.std.proofs.Common.{ℕ, List, Option, ap, sym, ◌∙◌, take}
 use Rattle.std.specs.Prelude.{reverse, []}
 use Rattle.std.specs.List.{cons_option}
 use Rattle.dm_event.specs.declared.step.Step.{Step}
 use Rattle.dm_event.specs.Vectors.{join_all}
-use Rattle.dm_model.specs.Sessions.{answered, answered_by}
+use Rattle.dm_model.specs.Sessions.{answered}
 use Rattle.dm_plain.specs.Adding.{join_one}
 use Rattle.dm_plain.proofs.Components.{join_none, join_one_more, long_both}
 use Rattle.dm_plain.proofs.Past.{past_more, legal_front}

@@ -1,5 +1,4 @@
-use Rattle.std.proofs.Common.{◌≡◌, ◌+◌, ◌-◌, ◌<◌, ◌≤◌, ℕ, List, Option, Some, None, ap, sym, ◌∙◌, refl, subst, arith, inl, inr, length, take, drop, get_or, Bool, true, false, not}
-use Rattle.dm_model.specs.Shape.{is_ascending}
+use Rattle.std.proofs.Common.{sym, ◌∙◌, arith}
 use Rattle.dm_plain.proofs.Ascending.{ascends_on, ascends_not, ascends_last}
 use Rattle.dm_plain.proofs.shape.ascend.Goals as goal
 

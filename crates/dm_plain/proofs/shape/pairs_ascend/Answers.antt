@@ -1,5 +1,4 @@
-use Rattle.std.proofs.Common.{◌≡◌, ◌+◌, ◌-◌, ◌<◌, ◌≤◌, ℕ, List, Option, Some, None, ap, sym, ◌∙◌, refl, subst, arith, inl, inr, length, take, drop, get_or, Bool, true, false, not}
-use Rattle.dm_model.specs.Shape.{is_ascending}
+use Rattle.std.proofs.Common.{◌≡◌, ℕ, sym, ◌∙◌, arith, length}
 use Rattle.std.specs.Prelude.{map}
 use Rattle.dm_event.specs.declared.step.Pair.{Pair}
 use Rattle.std.proofs.lemmas.List.{length-map}

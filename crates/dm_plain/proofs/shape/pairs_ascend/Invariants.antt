@@ -1,4 +1,4 @@
-use Rattle.std.proofs.Common.{◌≡◌, ◌+◌, ◌-◌, ◌<◌, ◌≤◌, ℕ, List, Option, Some, None, ap, sym, ◌∙◌, refl, subst, arith, inl, inr, length, take, drop, get_or, Bool, true, false, not}
+use Rattle.std.proofs.Common.{◌≡◌, drop}
 use Rattle.dm_model.specs.Shape.{is_ascending}
 use Rattle.std.specs.Prelude.{map}
 use Rattle.dm_plain.proofs.shape.pairs_ascend.Given as goal

@@ -1,5 +1,4 @@
-use Rattle.std.proofs.Common.{◌≡◌, ◌<◌, ◌≤◌, ◌+◌, ℕ, take, length, get_or, drop}
-use Rattle.std.specs.Prelude.{reverse, option_copied, option_map, ◌==◌, filter_map, filter, false, slice_get}
+use Rattle.std.proofs.Common.{◌≡◌, drop}
 use Rattle.dm_model.specs.Values.{written}
 use Rattle.dm_plain.proofs.values.written.Given as goal
 

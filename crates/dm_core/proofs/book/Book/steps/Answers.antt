@@ -1,4 +1,4 @@
-use Rattle.std.proofs.Common.{◌≡◌, ap, refl}
+use Rattle.std.proofs.Common.{ap}
 use Rattle.dm_core.specs.Ledger.{Ledger}
 use Rattle.dm_core.proofs.Kept.{kept_snapshot, kept_order, kept_sessions, kept_masters}
 use Rattle.dm_core.proofs.book.Book.steps.Goals as goal
