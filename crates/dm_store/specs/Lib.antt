@@ -1,0 +1,9 @@
+pub mod Versions
+pub mod Known
+pub mod Chained
+pub mod Chains
+pub mod Reads
+pub mod Rising
+pub mod Contents
+pub mod Stores
+pub mod Histories
