@@ -1,0 +1,10 @@
+pub mod Answers
+pub mod Counts
+pub mod Firsts
+pub mod Lines
+pub mod Members
+pub mod Merging
+pub mod Overtaking
+pub mod Places
+pub mod Runs
+pub mod Sound

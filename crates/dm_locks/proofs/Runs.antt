@@ -1,0 +1,53 @@
+-- Every run of calls leaves a sound table.
+use Rattle.std.proofs.Common.{◌≤◌, ◌≡◌, Bool, true, false, List, [], ◌∷◌, ◌++◌, length, Option, Some, None, refl, subst, arith}
+use Rattle.std.proofs.lemmas.List.{length-append}
+use Rattle.std.specs.Prelude.{if◌then◌else◌, option_map, unwrap_or}
+use Rattle.dm_event.specs.declared.step.TxnId.{TxnId}
+use Rattle.dm_locks.proofs.Answers.{got_from}
+use Rattle.dm_locks.proofs.Sound.{few_claims, gives_back, got_holds, got_moves, waits_more}
+use Rattle.dm_locks.specs.Calls.{Call, Ask, Poll, GiveBack, Clear, IsRun, MayCall, Reached, after, after_all}
+use Rattle.dm_locks.specs.Claims.{answer, claim_of}
+use Rattle.dm_locks.specs.Locks.{Locks, answer_at_poll, asked, everyone, granted, is_got, no_locks, polled}
+use Rattle.dm_locks.specs.Sound.{Sound}
+use Rattle.dm_locks.specs.declared.claim.Claim.{Claim}
+
+pub nothing_sound : Sound no_locks
+nothing_sound = record { in_range = tt; one_claim = λ session. omega arith; one_holder = λ key. omega arith }
+
+asked_sound : (locks : Locks) (claim : Claim) → Sound locks → MayCall locks (Ask claim) → Sound (asked locks claim)
+asked_sound locks claim h may = by_answer (is_got (answer claim.keys (everyone locks))) refl
+  where
+    by_answer : (b : Bool) → is_got (answer claim.keys (everyone locks)) ≡ b
+        → Sound (if b then record locks { holders = locks.holders ++ claim ∷ [] } else record locks { waiters = locks.waiters ++ claim ∷ [] })
+    by_answer true e = got_holds claim locks.holders locks.waiters h (may.0, may.1) may.2 (got_from (answer claim.keys (everyone locks)) e)
+    by_answer false e = waits_more claim locks.holders locks.waiters h (may.0, may.1) may.2
+
+polled_sound : (locks : Locks) (txn : TxnId) → Sound locks → Sound (polled locks txn)
+polled_sound locks txn h = by_answer (is_got (answer_at_poll locks txn)) refl
+  where
+    by_claim : (o : Option Claim) → claim_of txn locks.waiters ≡ o → is_got (answer_at_poll locks txn) ≡ true → Sound (unwrap_or (option_map (granted locks txn) o) locks)
+    by_claim None q e = h
+    by_claim (Some claim) q e = got_moves txn claim locks.holders locks.waiters h q (got_from (answer_at_poll locks txn) e)
+
+    by_answer : (b : Bool) → is_got (answer_at_poll locks txn) ≡ b → Sound (if b then unwrap_or (option_map (granted locks txn) (claim_of txn locks.waiters)) locks else locks)
+    by_answer true e = by_claim (claim_of txn locks.waiters) refl e
+    by_answer false e = h
+
+after_sound : (locks : Locks) (call : Call) → Sound locks → MayCall locks call → Sound (after locks call)
+after_sound locks (Ask claim) h may = asked_sound locks claim h may
+after_sound locks (Poll txn) h may = polled_sound locks txn h
+after_sound locks (GiveBack txn) h may = gives_back txn locks.holders locks.waiters h
+after_sound locks Clear h may = nothing_sound
+
+run_sound : (locks : Locks) (calls : List Call) → Sound locks → IsRun locks calls → Sound (after_all locks calls)
+run_sound locks [] h r = h
+run_sound locks (call ∷ calls) h r = run_sound (after locks call) calls (after_sound locks call h r.0) r.1
+
+pub reached_sound : (locks : Locks) → Reached locks → Sound locks
+reached_sound locks r = subst (λ (l : Locks). Sound l) r.2 (run_sound no_locks r.0 nothing_sound r.1)
+
+pub reached_few : (locks : Locks) → Reached locks → length (everyone locks) ≤ 32
+reached_few locks r =
+    let l = few_claims locks (reached_sound locks r) in
+    let e = length-append locks.holders locks.waiters in
+    omega arith

@@ -1,0 +1,54 @@
+-- Whole runs of calls.
+use Rattle.std.specs.Prelude.{ℕ, ◌≡◌, ◌≤◌, List, [], ◌∷◌, Some, IsSome, IsTrue}
+use Rattle.dm_event.specs.declared.step.TxnId.{TxnId}
+use Rattle.dm_locks.specs.Claims.{claim_of, has_key, is_of_session}
+use Rattle.dm_locks.specs.Locks.{Locks, asked, everyone, given_back, no_locks, polled}
+use Rattle.dm_locks.specs.declared.claim.Claim.{Claim}
+use Rattle.dm_model.specs.Words.{count_of}
+
+-- a call that may change the table
+pub data Call : Type 0 where
+  Ask : Claim → Call
+  Poll : TxnId → Call
+  GiveBack : TxnId → Call
+  Clear : Call
+
+abbrev pub after : Locks → Call → Locks
+after locks (Ask claim) = asked locks claim
+after locks (Poll txn) = polled locks txn
+after locks (GiveBack txn) = given_back locks txn
+after locks Clear = no_locks
+
+-- the table after all the calls, in their order
+abbrev pub after_all : Locks → List Call → Locks
+after_all locks [] = locks
+after_all locks (call ∷ calls) = after_all (after locks call) calls
+
+-- who asks is of a session 1 to 32 that has no claim, and who polls waits
+abbrev pub MayCall : Locks → Call → Type 0
+MayCall locks (Ask claim) = (1 ≤ claim.txn.session) × (claim.txn.session ≤ 32) × (count_of (is_of_session claim.txn.session) (everyone locks) ≡ 0)
+MayCall locks (Poll txn) = IsSome (claim_of txn locks.waiters)
+MayCall locks (GiveBack txn) = Unit {0}
+MayCall locks Clear = Unit {0}
+
+-- each call may be made where it comes
+abbrev pub IsRun : Locks → List Call → Type 0
+IsRun locks [] = Unit {0}
+IsRun locks (call ∷ calls) = MayCall locks call × IsRun (after locks call) calls
+
+-- a table that a run of calls leaves of a new one
+abbrev pub Reached : Locks → Type 0
+Reached locks = (calls : List Call) × IsRun no_locks calls × (after_all no_locks calls ≡ locks)
+
+-- the claim waits
+abbrev pub IsWaiting : Locks → Claim → Type 0
+IsWaiting locks claim = claim_of claim.txn locks.waiters ≡ Some claim
+
+-- the claim waits now, and after each of the calls
+abbrev pub WaitsOn : Locks → List Call → Claim → Type 0
+WaitsOn locks [] claim = IsWaiting locks claim
+WaitsOn locks (call ∷ calls) claim = IsWaiting locks claim × WaitsOn (after locks call) calls claim
+
+-- the claims have a key in common
+abbrev pub Share : Claim → Claim → Type 0
+Share a b = (key : ℕ) × IsTrue (has_key key a) × IsTrue (has_key key b)

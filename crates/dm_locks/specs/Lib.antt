@@ -1,0 +1,5 @@
+pub mod Claims
+pub mod Locks
+pub mod Sound
+pub mod Room
+pub mod Calls
