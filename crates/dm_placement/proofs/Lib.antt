@@ -1,0 +1,10 @@
+pub mod Totals
+pub mod Members
+pub mod Tallies
+pub mod Needs
+pub mod Evens
+pub mod ScoreParts
+pub mod Leading
+pub mod Joined
+pub mod Windows
+pub mod Existing

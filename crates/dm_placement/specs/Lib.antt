@@ -1,0 +1,5 @@
+pub mod Sets
+pub mod Scored
+pub mod WindowFields
+pub mod Loads
+pub mod Tells
