@@ -1,7 +1,7 @@
 //! What a database is made of.
 
 ghost use Rattle.std.specs.List.{list_all};
-ghost use Rattle.std.specs.Prelude.{◌≡◌, ◌<◌, ◌≤◌, slice_get, Some, length, find, reverse, IfOk, IfSome};
+ghost use Rattle.std.specs.Prelude.{◌≡◌, ◌<◌, ◌≤◌, slice_get, Some, length, find, reverse, true, IfOk, IfSome};
 ghost use Rattle.dm_event.specs.Layout.{is_layout, within_limits, is_between, fits_weights, fits_range, opening_value, part_of, holds_key};
 
 use crate::{Key, NoMemory, Part, SiteNo, Value};
@@ -81,6 +81,7 @@ impl Schema {
     pub fn parts(&self) -> u16
         ensures same { result ≡ length self.now.masters }
         ensures limits { (1 ≤ result) × (result ≤ 256) }
+        ensures masters { list_all (is_between 1 self.now.sites) self.now.masters ≡ true }
     {
         self.masters.len() as u16
     }
@@ -111,6 +112,7 @@ impl Schema {
     pub fn part_of(&self, key: Key) -> Option<Part>
         ensures exact { result ≡ part_of self.now key }
         ensures inside { IfSome result (λ part. part < length self.now.masters) }
+        ensures few { IfSome result (λ part. part ≤ 255) }
     {
         if u64::from(key) < self.masters.len() as u64 * u64::from(self.width) {
             Some((key / self.width) as Part)
