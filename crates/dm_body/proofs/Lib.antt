@@ -1,2 +1,4 @@
 pub mod Folds
 pub mod Puts
+pub mod OwnWrites
+pub mod WriteLists

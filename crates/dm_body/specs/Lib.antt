@@ -1,3 +1,4 @@
 pub mod Progress
 pub mod Answer
 pub mod Room
+pub mod Fitting

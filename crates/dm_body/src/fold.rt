@@ -1,7 +1,7 @@
 //! Whole bodies.
 
 ghost use Rattle.std.specs.Prelude.{◌≡◌, ◌≤◌, length, IfOk};
-ghost use Rattle.dm_model.specs.Bodies.{body as body_of, first_undeclared, written_key};
+ghost use Rattle.dm_model.specs.Bodies.{body as body_of, first_undeclared, has_writes, written_key};
 
 use crate::{Overlay, Ran, View};
 use dm_event::{Body, Key, NoMemory, Op};
@@ -11,15 +11,26 @@ use std::alloc::Global;
 pub fn first_undeclared(body: &Body) -> Option<Key>
     ensures { result ≡ first_undeclared body.now.declared body.now.ops }
 {
-    let declared = body.declared.as_slice();
-    body.ops
-        .as_slice()
-        .iter()
-        .filter_map(written_key)
-        .find(|key| !declared.contains(key))
+    undeclared_in(body.declared.as_slice(), body.ops.as_slice())
 }
 
-fn written_key(op: &Op) -> Option<Key>
+/// The key of the first write or addition whose key is not among these.
+pub fn undeclared_in(keys: &[Key], ops: &[Op]) -> Option<Key>
+    ensures { result ≡ first_undeclared keys.now ops.now }
+{
+    ops.iter()
+        .filter_map(written_key)
+        .find(|key| !keys.contains(key))
+}
+
+/// Whether one of the ops writes.
+pub fn has_writes(ops: &[Op]) -> bool
+    ensures { result ≡ has_writes ops.now }
+{
+    ops.iter().any(|op| written_key(op).is_some())
+}
+
+pub(crate) fn written_key(op: &Op) -> Option<Key>
     ensures { result ≡ written_key op.now }
 {
     match op {

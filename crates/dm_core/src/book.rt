@@ -1,22 +1,36 @@
 //! The history so far, as the plain list of its steps.
 
-ghost use Rattle.std.specs.Prelude.{◌≡◌, ◌≤◌, ◌++◌, ◌∷◌, [], true, None, Some, length, IfOk, OnOk, OnErr, MatchResult, option_copied};
+ghost use Rattle.std.specs.List.{list_all};
+ghost use Rattle.std.specs.Prelude.{ℕ, ◌≡◌, ◌<◌, ◌≤◌, ◌↔◌, ◌++◌, ◌∷◌, [], true, false, None, Some, length, IfOk, IsNone, OnOk, OnErr, MatchResult, option_copied};
 ghost use Rattle.dm_core.specs.Ledger.{past};
 ghost use Rattle.dm_model.specs.Acts.{entry_at};
-ghost use Rattle.dm_model.specs.Allowed.{Allowed, refusal};
-ghost use Rattle.dm_model.specs.Attempts.{attempt};
+ghost use Rattle.dm_model.specs.Allowed.{Allowed, next_refresh, refusal, runner};
+ghost use Rattle.dm_model.specs.Attempts.{attempt, wanted_keys, wants_txn};
+ghost use Rattle.dm_model.specs.Choices.{choice_due};
+ghost use Rattle.dm_model.specs.Doubts.{is_down};
+ghost use Rattle.dm_model.specs.Floors.{floor};
 ghost use Rattle.dm_model.specs.Legal.{Legal};
 ghost use Rattle.dm_model.specs.OneMaster.{OneMaster};
 ghost use Rattle.dm_model.specs.Ordered.{Ordered};
 ghost use Rattle.dm_model.specs.Outcomes.{said_due};
+ghost use Rattle.dm_model.specs.Placings.{placing};
 ghost use Rattle.dm_model.specs.Progress.{full, site_vector};
 ghost use Rattle.dm_model.specs.SessionUp.{SessionUp};
 ghost use Rattle.dm_model.specs.Sessions.{session_vector};
+ghost use Rattle.dm_model.specs.Shape.{is_key, is_site};
 ghost use Rattle.dm_model.specs.Snapshot.{Snapshot};
 ghost use Rattle.dm_model.specs.Values.{value};
-ghost use Rattle.dm_plain.specs.Judging.{is_judged};
+ghost use Rattle.dm_store.specs.Histories.{committed_inside};
 
-use dm_event::{Attempt, Entry, Key, NoMemory, Said, Schema, SiteNo, Step, Value, Vector, Why};
+use crate::inside::inside;
+use crate::noting::note;
+use dm_event::{
+    Attempt, Choice, Entry, Key, NoMemory, Part, Placing, Said, Schema, SiteNo, Step, TxnId, Value,
+    Vector, Want, Why,
+};
+use dm_model::refreshes_reach_full;
+use dm_placement::Window;
+use dm_store::Past;
 use std::alloc::Global;
 use std::marker::Model;
 
@@ -26,6 +40,8 @@ pub struct Book {
     schema: Schema,
     items: Vec<u32>,
     steps: Vec<Step>,
+    /// What the last Routes with declared keys wanted.
+    window: Window,
 }
 
 impl Model for Book {
@@ -33,11 +49,11 @@ impl Model for Book {
 
     ghost Value = { Ledger };
 
-    ghost use Rattle.dm_core.specs.Books.{ledger_of, IsLegal};
+    ghost use Rattle.dm_core.specs.Books.{ledger_of, IsBook};
 
     ghost view = { ledger_of };
 
-    ghost invariant = { IsLegal };
+    ghost invariant = { IsBook };
 }
 
 impl Book {
@@ -53,6 +69,7 @@ impl Book {
             schema: schema.try_clone()?,
             items: Vec::from_slice(alloc, items)?,
             steps: Vec::new(alloc),
+            window: Window::new(alloc)?,
         })
     }
 
@@ -81,6 +98,7 @@ impl Book {
             schema: _,
             items: _,
             steps,
+            window: _,
         } = self;
         steps
     }
@@ -105,11 +123,34 @@ impl Book {
         dm_plain::full(&self.schema, &self.steps)
     }
 
+    /// The committed update transactions inside the vector, in the history's order: what a store needs
+    /// that is to read at this vector.
+    pub fn past(&self, alloc: Global, upto: &Vector) -> Result<Vec<Past>, NoMemory>
+        ensures { IfOk result (λ list. list.items ≡ committed_inside self.now.steps upto.now) }
+    {
+        inside(alloc, &self.steps, upto)
+    }
+
     /// The site's vector.
     pub fn vector(&self, site: SiteNo) -> Vector
         ensures { result ≡ site_vector self.now.layout.sites (past self.now) site }
     {
         dm_plain::site_vector(&self.schema, &self.steps, site)
+    }
+
+    /// What the site has even where nothing but its log is left: its own transactions with all that they
+    /// saw, and what it needed for each partition that it took over.
+    pub fn floor(&self, site: SiteNo) -> Vector
+        ensures { result ≡ floor self.now.layout.sites (past self.now) site }
+    {
+        dm_plain::floor(&self.schema, &self.steps, site)
+    }
+
+    /// Whether the site is down: from a doubt there to its next restart.
+    pub fn is_down(&self, site: SiteNo) -> bool
+        ensures { result ≡ is_down site (past self.now) }
+    {
+        dm_plain::is_down(&self.steps, site)
     }
 
     /// What the session was answered, as a vector: the least at which it may begin.
@@ -119,11 +160,27 @@ impl Book {
         dm_plain::session_vector(&self.schema, &self.steps, session)
     }
 
+    /// Where the partition is mastered, and how far its hand-over has come.
+    pub fn placing(&self, part: Part) -> Placing
+        requires { part < length self.now.layout.masters }
+        ensures { result ≡ placing self.now.layout (past self.now) part }
+    {
+        dm_plain::placing(&self.schema, &self.steps, part)
+    }
+
     /// The last attempt at the session's current item.
     pub fn attempt(&self, session: u32) -> Attempt
         ensures { result ≡ attempt session (past self.now) }
     {
         dm_plain::attempt(&self.steps, session)
+    }
+
+    /// The earliest begun attempt that runs at the site and declares a key of the partition: a release
+    /// waits for it.
+    pub fn runner(&self, site: SiteNo, part: Part) -> Option<TxnId>
+        ensures { result ≡ runner self.now.layout (past self.now) site part }
+    {
+        dm_plain::runner(&self.schema, &self.steps, site, part)
     }
 
     /// The committed update transaction with this origin and number.
@@ -133,20 +190,47 @@ impl Book {
         dm_plain::entry_at(&self.steps, origin, seq)
     }
 
+    /// The least origin whose next transaction the site may take over.
+    pub fn next_refresh(&self, site: SiteNo) -> Option<SiteNo>
+        ensures least { result ≡ next_refresh self.now.layout (past self.now) site }
+        ensures reaches_full { is_site self.now.layout site ≡ true → is_down site (past self.now) ≡ false
+            → IsNone result ↔ (site_vector self.now.layout.sites (past self.now) site ≡ full self.now.layout.sites (past self.now)) }
+    {
+        refreshes_reach_full();
+        dm_clauses::next_refresh(&self.schema, &self.steps, site)
+    }
+
+    /// The site and the choice that are due for a transaction of the session.
+    pub fn choice_for(&self, session: u32, want: &Want) -> (SiteNo, Choice)
+        requires session { (1 ≤ session) × (session ≤ 32) }
+        requires txn { wants_txn want.now ≡ true }
+        requires keys { list_all (is_key self.now.layout) (wanted_keys want.now) ≡ true }
+        ensures { result ≡ choice_due self.now.layout (past self.now) session (wanted_keys want.now) }
+    {
+        match want {
+            Want::Txn(keys) => dm_clauses::choice_due(
+                &self.schema,
+                &self.steps,
+                &self.window,
+                session,
+                keys.as_slice(),
+            ),
+            Want::Place(_) | Want::Restart => unreachable!(),
+        }
+    }
+
     /// The outcome that is due for the session.
     pub fn said_for(&self, session: u32) -> Option<Said>
         ensures { result ≡ said_due self.now.layout (past self.now) session }
     {
-        dm_plain::said_due(&self.schema, &self.steps, session)
+        dm_outcomes::said_due(&self.schema, &self.steps, session)
     }
 
-    /// Whether the step may follow the history, and why not: the first rule that it breaks. So far it
-    /// judges a Begin, a Commit, an End, a Refresh, a Reply, and a Route by hand.
+    /// Whether the step may follow the history, and why not: the first rule that it breaks.
     pub fn enabled(&self, step: &Step) -> Result<(), Why>
-        requires { is_judged step.now ≡ true }
         ensures { MatchResult result (λ done. refusal self.now.layout (past self.now) step.now ≡ None) (λ why. refusal self.now.layout (past self.now) step.now ≡ Some why) }
     {
-        match dm_plain::refusal(&self.schema, &self.steps, step) {
+        match dm_clauses::refusal(&self.schema, &self.steps, &self.window, step) {
             None => Ok(()),
             Some(why) => Err(why),
         }
@@ -172,6 +256,7 @@ impl Book {
         ensures schema { self.new.layout ≡ self.old.layout }
         ensures items { self.new.items ≡ self.old.items }
     {
+        note(&self.schema, &mut self.window, &step);
         match self.steps.push(step) {
             Ok(()) => {}
             Err(_) => unreachable!(),

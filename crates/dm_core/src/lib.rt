@@ -2,9 +2,8 @@
 #![tactic(auto)]
 
 mod book;
+mod inside;
+mod noting;
 
 pub use book::Book;
 pub use dm_event::{Attempt, AttemptState, Placing};
-
-#[cfg(test)]
-mod tests;

@@ -1,6 +1,6 @@
 -- Which step may follow a past, and why another may not: each row with what it reads of the past.
 use Rattle.std.specs.Option.{option_map_or, option_or}
-use Rattle.std.specs.Prelude.{ℕ, ◌+◌, ◌≡◌, ◌==◌, Bool, false, nat_lt, ◌&&◌, ◌||◌, not, List, [], ◌∷◌, ◌++◌, Option, None, is_some, option_map, option_and_then, option_to_list, find, reverse}
+use Rattle.std.specs.Prelude.{ℕ, ◌+◌, ◌≡◌, ◌==◌, Bool, false, nat_lt, ◌&&◌, ◌||◌, not, List, [], ◌∷◌, ◌++◌, Option, None, is_none, is_some, option_map, option_and_then, option_to_list, find, reverse}
 use Rattle.dm_event.specs.Layout.{Layout}
 use Rattle.dm_event.specs.Vectors.{at, sites_to, first_above, raised}
 use Rattle.dm_event.specs.declared.step.Choice.{Choice}
@@ -163,3 +163,7 @@ module _ (layout : Layout) (past : List Step) where
 -- no clause fails
 abbrev pub Allowed : Layout → List Step → Step → Type 0
 Allowed layout past s = refusal layout past s ≡ None
+
+-- the least origin whose next entry the site may take over
+abbrev pub next_refresh : Layout → List Step → ℕ → Option ℕ
+next_refresh layout past site = find (λ origin. is_none (refusal layout past (Refresh site origin))) (sites_to layout.sites)

@@ -1,6 +1,6 @@
 -- What a further step adds to the entries.
 use Rattle.std.proofs.Common.{ℕ, suc, ◌+◌, ◌≤◌, ◌<◌, ◌≡◌, Bool, true, false, cond, List, [], ◌∷◌, ◌++◌, Option, Some, None, length, take, get_or, refl, ap, sym, ◌∙◌, arith, subst}
-use Rattle.std.specs.Prelude.{reverse, find, filter_map, option_map, option_to_list, ◌==◌, ◌&&◌}
+use Rattle.std.specs.Prelude.{reverse, find, filter_map, option_map, option_to_list, ◌==◌, ◌&&◌, not}
 use Rattle.std.specs.Option.{option_or}
 use Rattle.std.proofs.lemmas.List.Elements.{filter_map-append}
 use Rattle.dm_event.specs.declared.placing.Placing.{Placing}
@@ -11,13 +11,17 @@ use Rattle.dm_event.specs.declared.step.Pending.{Pending}
 use Rattle.dm_event.specs.declared.step.Pending.TheVariants as pending
 use Rattle.dm_event.specs.declared.step.Step.{Step}
 use Rattle.dm_event.specs.declared.step.Step.TheVariants.{Route, Reply, Ask, Settle, Begin, Moved, Commit, End, Fail, Refresh, Release, Grant, Doubt, Restart}
+use Rattle.std.proofs.lemmas.List.{reverse-append}
+use Rattle.dm_event.specs.Vectors.{is_at_most}
 use Rattle.dm_model.specs.Acts.{acts, acts_of, entry_of, entries, entry_at}
+use Rattle.dm_model.specs.Allowed.{past_with}
+use Rattle.dm_model.specs.Closed.{is_inside, unclosed}
 use Rattle.dm_model.specs.Doubts.{step_of, pending_at}
 use Rattle.dm_model.specs.Placings.{placed_by, after_acts}
 use Rattle.dm_model.specs.Progress.{entry_count}
 use Rattle.dm_model.specs.Values.{newest}
 use Rattle.dm_model.specs.Words.{count_of}
-use Rattle.dm_plain.specs.Adding.{kept_entry, of_origin, numbered, written_by, kept_placing}
+use Rattle.dm_plain.specs.Adding.{kept_entry, of_origin, numbered, written_by, kept_placing, unclosed_one}
 use Rattle.dm_plain.proofs.Past.{past_more}
 
 by_pending : (site : ℕ) (o : Option Pending) → option_to_list (kept_entry Kept o) ≡ filter_map entry_of (option_to_list (option_map (step_of site) o))
@@ -78,6 +82,60 @@ newest_one : (key : ℕ) (v : List ℕ) (o : Option Entry) (es : List Entry) →
 newest_one key v None es = refl
 newest_one key v (Some e) es = refl
 
+-- ---- entries for which a vector isn't closed
+
+abbrev pub named : Entry → ℕ × ℕ
+named e = (e.origin, e.seq)
+
+find_last : (p : Entry → Bool) (es : List Entry) (e : Entry) → option_map named (find p (es ++ e ∷ [])) ≡ option_or (option_map named (find p es)) (cond (p e) (Some (e.origin, e.seq)) None)
+find_last p [] e = by_test (p e)
+  where
+    by_test : (b : Bool) → option_map named (cond b (Some e) None) ≡ cond b (Some (e.origin, e.seq)) None
+    by_test true = refl
+    by_test false = refl
+find_last p (d ∷ es) e = by_test (p d) (find_last p es e)
+  where
+    by_test : (b : Bool) → option_map named (find p (es ++ e ∷ [])) ≡ option_or (option_map named (find p es)) (cond (p e) (Some (e.origin, e.seq)) None)
+        → option_map named (cond b (Some d) (find p (es ++ e ∷ [])))
+        ≡ option_or (option_map named (cond b (Some d) (find p es))) (cond (p e) (Some (e.origin, e.seq)) None)
+    by_test true h = refl
+    by_test false h = h
+
+none_last : {A : Type 0} (o : Option A) → o ≡ option_or o None
+none_last None = refl
+none_last (Some x) = refl
+
+-- one more entry is the last that is looked at
+pub unclosed_more : (count : ℕ) (v : List ℕ) (o : Option Entry) (es : List Entry)
+    → option_map named (unclosed count v (reverse (option_to_list o ++ es))) ≡ option_or (option_map named (unclosed count v (reverse es))) (unclosed_one count v o)
+unclosed_more count v None es = none_last (option_map named (unclosed count v (reverse es)))
+unclosed_more count v (Some e) es =
+    ap (λ (l : List Entry). option_map named (unclosed count v l)) (reverse-append (e ∷ []) es)
+    ∙ find_last (λ d. is_inside v d && not (is_at_most count d.begin v)) (reverse es) e
+
+-- a Restart that keeps a commit counts its entry
+pub entries_counted : (site : ℕ) (found : Found) (past : List Step) → entries (past_with site found past) ≡ option_to_list (kept_entry found (pending_at site past)) ++ entries past
+entries_counted site Clean past = refl
+entries_counted site Lost past = refl
+entries_counted site Kept past = by_kept (pending_at site past)
+  where
+    by_kept : (o : Option Pending) → entries (option_to_list (option_map (step_of site) o) ++ past) ≡ option_to_list (kept_entry Kept o) ++ entries past
+    by_kept None = refl
+    by_kept (Some (pending.Commit e)) = refl
+    by_kept (Some (pending.Release part epoch to vector)) = refl
+    by_kept (Some (pending.Grant part epoch vector)) = refl
+
+pub count_counted : (j site : ℕ) (found : Found) (past : List Step) → entry_count j (past_with site found past) ≡ entry_count j past + of_origin j (kept_entry found (pending_at site past))
+count_counted j site found past =
+    ap (λ (es : List Entry). count_of (λ e. e.origin == j) es) (entries_counted site found past) ∙ count_one j (kept_entry found (pending_at site past)) (entries past)
+
+pub unclosed_counted : (count : ℕ) (v : List ℕ) (site : ℕ) (found : Found) (past : List Step)
+    → option_map named (unclosed count v (reverse (entries (past_with site found past))))
+    ≡ option_or (option_map named (unclosed count v (reverse (entries past)))) (unclosed_one count v (kept_entry found (pending_at site past)))
+unclosed_counted count v site found past =
+    ap (λ (es : List Entry). option_map named (unclosed count v (reverse es))) (entries_counted site found past)
+    ∙ unclosed_more count v (kept_entry found (pending_at site past)) (entries past)
+
 module _ (steps : List Step) (i : ℕ) (s : Step) (o : Option Entry) (h : i < length steps) (e : s ≡ get_or steps i s) (f : option_to_list o ≡ filter_map entry_of (acts_of s (reverse (take i steps)))) where
   after : entries (reverse (take (i + 1) steps)) ≡ option_to_list o ++ entries (reverse (take i steps))
   after = ap entries (past_more steps i s h e) ∙ entries_more s (reverse (take i steps)) o f
@@ -90,6 +148,12 @@ module _ (steps : List Step) (i : ℕ) (s : Step) (o : Option Entry) (h : i < le
 
   pub newest_after : (key : ℕ) (v : List ℕ) → newest (entries (reverse (take (i + 1) steps))) key v ≡ option_or (written_by key v o) (newest (entries (reverse (take i steps))) key v)
   newest_after key v = ap (λ (es : List Entry). newest es key v) after ∙ newest_one key v o (entries (reverse (take i steps)))
+
+  pub unclosed_after : (count : ℕ) (v : List ℕ)
+      → option_map named (unclosed count v (reverse (entries (reverse (take (i + 1) steps)))))
+      ≡ option_or (option_map named (unclosed count v (reverse (entries (reverse (take i steps)))))) (unclosed_one count v o)
+  unclosed_after count v =
+      ap (λ (es : List Entry). option_map named (unclosed count v (reverse es))) after ∙ unclosed_more count v o (entries (reverse (take i steps)))
 
 pub of_origin_few : (j : ℕ) (o : Option Entry) → of_origin j o ≤ 1
 of_origin_few j None = omega arith

@@ -1,7 +1,7 @@
 -- Searches from the front on.
 use Rattle.std.proofs.Common.{ℕ, suc, ◌+◌, ◌<◌, ◌≡◌, Bool, true, false, cond, List, [], ◌∷◌, ◌++◌, Option, Some, None, length, drop, get_or, refl, ap, sym, ◌∙◌, add-one}
-use Rattle.std.specs.Prelude.{reverse, find, filter, filter_map, option_map, option_and_then}
-use Rattle.std.specs.List.{cons_option}
+use Rattle.std.specs.Prelude.{reverse, find, filter, filter_map, option_map, option_and_then, ◌&&◌, ◌/◌, ◌==◌, ◌||◌}
+use Rattle.std.specs.List.{cons_option, list_any}
 use Rattle.std.specs.Option.{option_or}
 use Rattle.std.proofs.Math.Seq.{drop-cons}
 use Rattle.std.proofs.lemmas.Bool.{cond-true, cond-false}
@@ -9,10 +9,13 @@ use Rattle.std.proofs.lemmas.List.{reverse-append}
 use Rattle.std.proofs.lemmas.List.Elements.{filter_map-append}
 use Rattle.dm_event.specs.declared.step.Step.{Step}
 use Rattle.dm_event.specs.declared.step.TxnId.{TxnId}
-use Rattle.dm_model.specs.Allowed.{common_key, holder_among, holder}
+use Rattle.dm_event.specs.Layout.{Layout}
+use Rattle.dm_model.specs.Allowed.{common_key, holder_among, holder, runner}
 use Rattle.dm_model.specs.Attempts.{declared}
+use Rattle.dm_model.specs.Choices.{parts_in_order}
+use Rattle.dm_model.specs.Tests.{is_among}
 use Rattle.dm_model.specs.Runs.{runs, begun_at}
-use Rattle.dm_plain.specs.Adding.{held_by, holds_one}
+use Rattle.dm_plain.specs.Adding.{held_by, holds_one, run_by, runs_one}
 
 -- the rest of a list begins with its element
 pub rest_is : {X : Type 0} (xs : List X) (i : ℕ) (x : X) → i < length xs → x ≡ get_or xs i x → drop i xs ≡ x ∷ drop (i + 1) xs
@@ -70,3 +73,41 @@ holder_of site keys steps = ap (λ (ts : List TxnId). holder_among (reverse step
 pub holder_at : (site : ℕ) (keys : List ℕ) (past steps : List Step) (i : ℕ) (s : Step) → i < length steps → s ≡ get_or steps i s
     → holder_among past keys (live site keys past (drop i steps)) ≡ option_or (held_by site keys past s) (holder_among past keys (live site keys past (drop (i + 1) steps)))
 holder_at site keys past steps i s h e = ap (λ (l : List Step). holder_among past keys (live site keys past l)) (rest_is steps i s h e) ∙ holder_first site keys past s (drop (i + 1) steps)
+
+-- ---- the attempt that runs on a partition
+
+module _ (layout : Layout) (site part : ℕ) (past : List Step) where
+  -- the attempt declares a key of the partition
+  abbrev pub is_on : TxnId → Bool
+  is_on t = is_among (parts_in_order layout (declared t past)) part
+
+  -- the first attempt on the partition, of those that these steps began at the site and that run there
+  abbrev pub on_part : List Step → Option TxnId
+  on_part steps = find is_on (filter (λ t. runs site t past) (filter_map (begun_at site) steps))
+
+  on_run : (t : TxnId) (ts : List TxnId) (b c : Bool) → is_on t ≡ c → find is_on (cond b (t ∷ ts) ts) ≡ option_or (cond (b && c) (Some t) None) (find is_on ts)
+  on_run t ts true true e = cond-true (is_on t) (Some t) (find is_on ts) e
+  on_run t ts true false e = cond-false (is_on t) (Some t) (find is_on ts) e
+  on_run t ts false c e = refl
+
+  on_begin : (o : Option TxnId) (ts : List TxnId)
+      → find is_on (filter (λ t. runs site t past) (cons_option o ts)) ≡ option_or (option_and_then (runs_one layout site part past) o) (find is_on (filter (λ t. runs site t past) ts))
+  on_begin None ts = refl
+  on_begin (Some t) ts = on_run t (filter (λ u. runs site u past) ts) (runs site t past) (is_on t) refl
+
+  on_first : (s : Step) (steps : List Step) → on_part (s ∷ steps) ≡ option_or (run_by layout site part past s) (on_part steps)
+  on_first s steps = on_begin (begun_at site s) (filter_map (begun_at site) steps)
+
+-- the runner is looked for from the earliest step on
+pub runner_of : (layout : Layout) (site part : ℕ) (steps : List Step) → runner layout (reverse steps) site part ≡ on_part layout site part (reverse steps) steps
+runner_of layout site part steps =
+    ap (λ (ts : List TxnId). find (is_on layout site part (reverse steps)) (filter (λ t. runs site t (reverse steps)) ts)) (map_reverse (begun_at site) steps)
+
+pub runner_at : (layout : Layout) (site part : ℕ) (past steps : List Step) (i : ℕ) (s : Step) → i < length steps → s ≡ get_or steps i s
+    → on_part layout site part past (drop i steps) ≡ option_or (run_by layout site part past s) (on_part layout site part past (drop (i + 1) steps))
+runner_at layout site part past steps i s h e = ap (λ (l : List Step). on_part layout site part past l) (rest_is steps i s h e) ∙ on_first layout site part past s (drop (i + 1) steps)
+
+-- whether a key is of the partition, key by key
+pub any_part : (layout : Layout) (keys : List ℕ) (part : ℕ) → is_among (parts_in_order layout keys) part ≡ list_any (λ key. (key / layout.width) == part) keys
+any_part layout [] part = refl
+any_part layout (k ∷ keys) part = ap (λ (b : Bool). ((k / layout.width) == part) || b) (any_part layout keys part)

@@ -1,12 +1,13 @@
 -- What legality says of the numbers in a list of steps.
 use Rattle.std.proofs.Common.{ℕ, ◌≤◌, ◌≡◌, ◌≢◌, Bool, true, false, cond, List, [], ◌∷◌, Option, Some, None, length, refl, ap, sym, ◌∙◌, arith, subst, eqb-true, eq-eqb}
-use Rattle.std.specs.Prelude.{nat_le, option_map, ◌==◌, ◌&&◌, if◌then◌else◌, is_some, unwrap_or}
+use Rattle.std.specs.Prelude.{nat_le, option_map, ◌==◌, ◌&&◌, if◌then◌else◌, is_some, unwrap_or, IfSome}
 use Rattle.std.specs.List.{AllByRecursion as Each, list_all}
 use Rattle.std.specs.Option.{option_or}
 use Rattle.std.proofs.lemmas.Bool.{and_parts, leb-true, cond-true, cond-false, ne_eqb, both_ways}
 use Rattle.dm_event.specs.Layout.{Layout}
 use Rattle.dm_event.specs.Vectors.{sites_to}
 use Rattle.dm_event.specs.declared.step.Entry.{Entry}
+use Rattle.dm_event.specs.declared.step.Pending.{Pending}
 use Rattle.dm_event.specs.declared.step.Said.{Said}
 use Rattle.dm_event.specs.declared.step.Said.TheVariants as said
 use Rattle.dm_event.specs.declared.step.Step.{Step}
@@ -20,6 +21,7 @@ use Rattle.dm_model.specs.Acts.{entries, entry_at}
 use Rattle.dm_model.specs.Allowed.{Allowed, clauses}
 use Rattle.dm_model.specs.Attempts.{Routing, routing_of, last_routing, routing, declared, wanted_keys}
 use Rattle.dm_model.specs.Clauses.{holds}
+use Rattle.dm_model.specs.Doubts.{pending_at}
 use Rattle.dm_model.specs.Legal.{LegalPast}
 use Rattle.dm_model.specs.Progress.{entry_count, reached, refreshed}
 use Rattle.dm_model.specs.Runs.{begin_of, runs, run_site, begin_vector}
@@ -34,7 +36,7 @@ use Rattle.dm_model.proofs.NumbersSound.{sound_past}
 use Rattle.dm_plain.specs.Adding.{said_vector}
 use Rattle.dm_plain.proofs.Entries.{few_entries}
 
-shape_of : (layout : Layout) (past : List Step) (s : Step) → Allowed layout past s → is_shaped layout s ≡ true
+pub shape_of : (layout : Layout) (past : List Step) (s : Step) → Allowed layout past s → is_shaped layout s ≡ true
 shape_of layout past s h = holds_true _ _ (all_hold (holds (is_shaped layout s) why.Shape ∷ clauses layout past s) h).0
 
 -- ---- entries
@@ -190,3 +192,37 @@ declared_in layout past h t = by_route (routing t past) refl
     by_route : (o : Option Routing) → routing t past ≡ o → list_all (is_key layout) (unwrap_or (option_map (λ r. wanted_keys r.want) o) []) ≡ true
     by_route None e = refl
     by_route (Some r) e = keys_in r.want (fitting_route layout _ past h r e).wants
+
+-- ---- pending steps
+
+by_doubt : (layout : Layout) (site i : ℕ) (q p : Pending) (o : Option Pending) (b : Bool) → (b ≡ true → i ≡ site) → is_shaped layout (Doubt i q) ≡ true
+    → (o ≡ Some p → is_shaped layout (Doubt site p) ≡ true) → option_or (cond b (Some q) None) o ≡ Some p → is_shaped layout (Doubt site p) ≡ true
+by_doubt layout site i q p o true e s f h =
+    let same : q ≡ p = cc (h) in subst (λ (j : ℕ). is_shaped layout (Doubt j p) ≡ true) (e refl) (subst (λ (r : Pending). is_shaped layout (Doubt i r) ≡ true) same s)
+by_doubt layout site i q p o false e s f h = f h
+
+-- the pending step of a site has its shape
+shaped_pending : (layout : Layout) (site : ℕ) (past : List Step) → LegalPast layout past → (p : Pending) → pending_at site past ≡ Some p → is_shaped layout (Doubt site p) ≡ true
+shaped_pending layout site [] h p e = absurd (cc (e))
+shaped_pending layout site (Doubt i q ∷ past) h p e =
+    by_doubt layout site i q p (pending_at site past) (i == site) (eqb-true i site) (shape_of layout past (Doubt i q) h.1) (λ f. shaped_pending layout site past h.0 p f) e
+shaped_pending layout site (Route txn want min at choice ∷ past) h p e = shaped_pending layout site past h.0 p e
+shaped_pending layout site (Reply session number said ∷ past) h p e = shaped_pending layout site past h.0 p e
+shaped_pending layout site (Ask part epoch to txn ∷ past) h p e = shaped_pending layout site past h.0 p e
+shaped_pending layout site (Settle part epoch ∷ past) h p e = shaped_pending layout site past h.0 p e
+shaped_pending layout site (Begin at txn begin ∷ past) h p e = shaped_pending layout site past h.0 p e
+shaped_pending layout site (Moved at txn ∷ past) h p e = shaped_pending layout site past h.0 p e
+shaped_pending layout site (Commit entry ∷ past) h p e = shaped_pending layout site past h.0 p e
+shaped_pending layout site (End at txn ops reads ∷ past) h p e = shaped_pending layout site past h.0 p e
+shaped_pending layout site (Fail at txn cause ∷ past) h p e = shaped_pending layout site past h.0 p e
+shaped_pending layout site (Refresh at origin ∷ past) h p e = shaped_pending layout site past h.0 p e
+shaped_pending layout site (Release at part epoch to vector ∷ past) h p e = shaped_pending layout site past h.0 p e
+shaped_pending layout site (Grant at part epoch vector ∷ past) h p e = shaped_pending layout site past h.0 p e
+shaped_pending layout site (Restart at vector found ∷ past) h p e = shaped_pending layout site past h.0 p e
+
+pub pending_shaped : (layout : Layout) (site : ℕ) (past : List Step) → LegalPast layout past → IfSome (pending_at site past) (λ p. is_shaped layout (Doubt site p) ≡ true)
+pending_shaped layout site past h = by_last (pending_at site past) refl
+  where
+    by_last : (o : Option Pending) → pending_at site past ≡ o → IfSome o (λ p. is_shaped layout (Doubt site p) ≡ true)
+    by_last None e = tt
+    by_last (Some p) e = shaped_pending layout site past h p e

@@ -4,9 +4,4 @@ pub mod Finding
 pub mod Entries
 pub mod Components
 pub mod Legality
-pub mod Settling
-pub mod OwnWrites
-pub mod WriteLists
-pub mod Ascending
-pub mod Elsewhere
-pub mod Hands
+pub mod FloorVectors

@@ -5,7 +5,8 @@ use Rattle.std.proofs.lemmas.List.{take-append-drop}
 use Rattle.dm_event.proofs.Backwards.{reverse_take}
 use Rattle.dm_event.specs.declared.step.Step.{Step}
 use Rattle.dm_event.specs.Layout.{Layout}
-use Rattle.dm_model.specs.Legal.{Legal}
+use Rattle.dm_model.specs.Allowed.{Allowed}
+use Rattle.dm_model.specs.Legal.{Legal, LegalPast}
 use Rattle.dm_model.proofs.Histories.{legal_prefix}
 
 -- after one step more it stands first
@@ -31,3 +32,7 @@ drop_all [] zero h = refl
 drop_all [] (suc i) h = refl
 drop_all (x ∷ xs) zero h = absurd (omega (arith, h))
 drop_all (x ∷ xs) (suc i) h = drop_all xs i (omega (arith, h))
+
+-- a step is allowed by those before it where all are legal
+pub allowed_at : (layout : Layout) (steps : List Step) (i : ℕ) (s : Step) → Legal layout steps → i < length steps → s ≡ get_or steps i s → Allowed layout (reverse (take i steps)) s
+allowed_at layout steps i s h l e = (subst (λ (past : List Step). LegalPast layout past) (past_more steps i s l e) (legal_front layout steps (i + 1) h)).1

@@ -1,5 +1,5 @@
 -- What one further step adds to what is read of a past.
-use Rattle.std.specs.Prelude.{ℕ, ℤ, ◌==◌, ◌&&◌, if◌then◌else◌, List, Option, Some, None, option_map, option_and_then}
+use Rattle.std.specs.Prelude.{ℕ, ℤ, ◌==◌, ◌&&◌, not, if◌then◌else◌, List, Option, Some, None, option_map, option_and_then}
 use Rattle.dm_event.specs.declared.step.Entry.{Entry}
 use Rattle.dm_event.specs.declared.step.Found.{Found}
 use Rattle.dm_event.specs.declared.step.Found.TheVariants.{Kept}
@@ -10,14 +10,20 @@ use Rattle.dm_event.specs.declared.step.Pending.TheVariants.{Commit, Release, Gr
 use Rattle.dm_event.specs.declared.step.Said.{Said}
 use Rattle.dm_event.specs.declared.step.Said.TheVariants as said
 use Rattle.dm_event.specs.declared.step.Step.{Step}
+use Rattle.dm_event.specs.declared.step.Step.TheVariants.{Restart}
 use Rattle.dm_event.specs.declared.step.TxnId.{TxnId}
-use Rattle.dm_event.specs.Vectors.{join}
+use Rattle.dm_event.specs.Layout.{Layout}
+use Rattle.dm_event.specs.Vectors.{join, is_at_most}
 use Rattle.dm_event.specs.Entries.{commit_vector}
 use Rattle.dm_model.specs.Acts.{entry_at}
 use Rattle.dm_model.specs.Allowed.{common_key}
 use Rattle.dm_model.specs.Attempts.{declared}
+use Rattle.dm_model.specs.Choices.{parts_in_order}
+use Rattle.dm_model.specs.Tests.{is_among}
 use Rattle.dm_model.specs.Runs.{runs, begun_at, last_begin}
 use Rattle.dm_model.specs.Closed.{is_inside}
+use Rattle.dm_model.specs.Doubts.{step_of, pending_at}
+use Rattle.dm_model.specs.Floors.{floor_vector}
 use Rattle.dm_model.specs.Values.{written}
 
 -- the entry of a kept commit
@@ -64,3 +70,26 @@ said_vector c other past = None
 abbrev pub join_one : List ℕ → Option (List ℕ) → List ℕ
 join_one v None = v
 join_one v (Some more) = join v more
+
+-- the attempt, where it runs at the site and declares a key of the partition
+abbrev pub runs_one : Layout → ℕ → ℕ → List Step → TxnId → Option TxnId
+runs_one layout site part past t = if runs site t past && is_among (parts_in_order layout (declared t past)) part then Some t else None
+
+-- the same of the attempt that the step began at the site
+abbrev pub run_by : Layout → ℕ → ℕ → List Step → Step → Option TxnId
+run_by layout site part past s = option_and_then (runs_one layout site part past) (begun_at site s)
+
+-- what a kept pending step of the site `at` adds to the floor of site i
+abbrev pub kept_floor : ℕ → ℕ → Found → Option Pending → Option (List ℕ)
+kept_floor i at Kept (Some p) = floor_vector i (step_of at p)
+kept_floor i at found other = None
+
+-- what a step adds to the floor of site i
+abbrev pub floor_by : ℕ → Step → List Step → Option (List ℕ)
+floor_by i (Restart site vector found) past = kept_floor i site found (pending_at site past)
+floor_by i s past = floor_vector i s
+
+-- the entry's origin and number, where it is inside the vector and began at a vector not at most it
+abbrev pub unclosed_one : ℕ → List ℕ → Option Entry → Option (ℕ × ℕ)
+unclosed_one count v None = None
+unclosed_one count v (Some e) = if is_inside v e && not (is_at_most count e.begin v) then Some (e.origin, e.seq) else None

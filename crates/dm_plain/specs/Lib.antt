@@ -1,4 +1,2 @@
 pub mod Adding
 pub mod Routings
-pub mod Judging
-pub mod Fitting

@@ -9,7 +9,7 @@ use crate::doubts::pending_at;
 use dm_event::{Entry, Found, Pending, SiteNo, Step};
 
 /// The entry that the step adds to those of the steps before it.
-pub(crate) fn entry_of<'a>(step: &'a Step, before: &'a [Step]) -> Option<&'a Entry>
+pub fn entry_of<'a>(step: &'a Step, before: &'a [Step]) -> Option<&'a Entry>
     ensures { option_to_list (option_copied result) ≡ filter_map entry_of (acts_of step.now (reverse before.now)) }
 {
     match step {
@@ -20,7 +20,7 @@ pub(crate) fn entry_of<'a>(step: &'a Step, before: &'a [Step]) -> Option<&'a Ent
 }
 
 /// The entry of a pending commit that is kept.
-fn kept_entry(found: Found, pending: Option<&Pending>) -> Option<&Entry>
+pub(crate) fn kept_entry(found: Found, pending: Option<&Pending>) -> Option<&Entry>
     ensures { option_copied result ≡ kept_entry found (option_copied pending.entry) }
 {
     match (found, pending) {
@@ -43,7 +43,7 @@ pub fn entry_count(steps: &[Step], origin: SiteNo) -> u64
 }
 
 /// 1 for an entry of the origin, else 0.
-fn is_of(entry: Option<&Entry>, origin: SiteNo) -> u64
+pub(crate) fn is_of(entry: Option<&Entry>, origin: SiteNo) -> u64
     ensures { result ≡ of_origin origin (option_copied entry.entry) }
 {
     match entry {

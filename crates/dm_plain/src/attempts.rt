@@ -1,9 +1,9 @@
 //! How the items of the sessions stand.
 
-ghost use Rattle.std.specs.Prelude.{◌≡◌, ◌==◌, ◌≤◌, length, reverse, option_map, option_copied, false};
+ghost use Rattle.std.specs.Prelude.{◌≡◌, ◌==◌, ◌≤◌, length, reverse, option_map, option_copied, is_some, false};
 ghost use Rattle.std.specs.Option.{option_map_or};
 ghost use Rattle.dm_event.specs.declared.step.TxnId.{TxnId};
-ghost use Rattle.dm_model.specs.Attempts.{is_reply, replies, is_route, routes, last_routing, routing, wanted_keys, declared, state_by, dropped_at, dropped_by, state, attempt, is_routed, wants_txn, routed_txn};
+ghost use Rattle.dm_model.specs.Attempts.{is_reply, replies, is_route, routes, last_routing, routing, wanted_keys, declared, state_by, dropped_at, dropped_by, state, attempt, is_routed, wants_txn, routed, routed_txn};
 ghost use Rattle.dm_model.specs.Tests.{same_txn};
 ghost use Rattle.dm_model.specs.Words.{since};
 ghost use Rattle.dm_plain.specs.Routings.{sent_of, sent_by, wanted_by, want_of, routed_by};
@@ -34,7 +34,7 @@ fn is_reply(step: &Step, session: u32) -> bool
     }
 }
 
-pub(crate) fn is_route(step: &Step, session: u32) -> bool
+pub fn is_route(step: &Step, session: u32) -> bool
     ensures { result ≡ is_route session step.now }
 {
     match step {
@@ -274,7 +274,7 @@ pub fn attempt(steps: &[Step], session: u32) -> Attempt
     }
 }
 
-pub(crate) fn is_routed(state: AttemptState) -> bool
+pub fn is_routed(state: AttemptState) -> bool
     ensures { result ≡ is_routed state }
 {
     match state {
@@ -290,6 +290,26 @@ fn wants_txn(want: Option<&Want>) -> bool
         Some(Want::Txn(_)) => true,
         _ => false,
     }
+}
+
+/// The attempt's Route, where its session stands routed by it.
+pub fn routed(steps: &[Step], txn: TxnId) -> Option<Sent>
+    ensures { result ≡ option_map sent_of (routed txn (reverse steps.now)) }
+{
+    let sent = last_sent(steps, txn.session)?;
+    if is_routed(state(steps, txn.session)) && same_txn(txn, sent.txn) {
+        Some(sent)
+    } else {
+        None
+    }
+}
+
+/// Whether the attempt's session stands routed by it.
+#[tactic(auto, using(crate::proofs::Routings::some_sent))]
+pub fn stands_routed(steps: &[Step], txn: TxnId) -> bool
+    ensures { result ≡ is_some (routed txn (reverse steps.now)) }
+{
+    routed(steps, txn).is_some()
 }
 
 /// The attempt's Route, where its session stands routed by it for a transaction.

@@ -4,29 +4,24 @@
 mod acts;
 mod attempts;
 mod doubts;
-mod fitting;
-mod judging;
-mod outcomes;
+mod floors;
 mod placings;
 mod progress;
-mod rows;
 mod running;
 mod sessions;
-mod shape;
 mod values;
 mod vectors;
 
-pub use acts::{entry_at, entry_count};
+pub use acts::{entry_at, entry_count, entry_of};
 pub use attempts::{
-    Sent, attempt, declared, last_sent, last_want, replies, routed_txn, routes, state, want,
+    Sent, attempt, declared, is_route, is_routed, last_sent, last_want, replies, routed,
+    routed_txn, routes, stands_routed, state, want,
 };
 pub use doubts::{is_down, pending_at};
-pub use fitting::{body_fits, has_writes, reads_fit, undeclared_in};
-pub use judging::refusal;
-pub use outcomes::{may_say, said_due};
-pub use placings::placing;
-pub use progress::{full, site_vector};
-pub use running::{begin_vector, holder, run_site, runs};
+pub use floors::{counted, counted_floor, counted_unclosed, floor};
+pub use placings::{may_begin_now, placing};
+pub use progress::{full, is_restart, reached, site_vector};
+pub use running::{begin_vector, has_part, holder, run_site, runner, runs};
 pub use sessions::session_vector;
-pub use shape::is_shaped;
 pub use values::{Reading, value};
+pub use vectors::{first_above, is_at_most, same_vector};

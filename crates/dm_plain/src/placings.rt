@@ -1,6 +1,6 @@
 //! Where each partition is mastered, and how far its hand-over has come.
 
-ghost use Rattle.std.specs.Prelude.{◌≡◌, ◌<◌, length, reverse, option_copied};
+ghost use Rattle.std.specs.Prelude.{◌≡◌, ◌<◌, ◌^◌, length, reverse, option_copied};
 ghost use Rattle.dm_model.specs.Placings.{asked, settled, placed_by, placing, may_begin_now};
 ghost use Rattle.dm_plain.specs.Adding.{kept_placing};
 
@@ -102,7 +102,8 @@ fn placed_by(step: &Step, before: &[Step], part: Part, now: Placing) -> Placing
 /// The placing of the partition.
 pub fn placing(schema: &Schema, steps: &[Step], part: Part) -> Placing
     requires { part < length schema.now.masters }
-    ensures { result ≡ placing schema.now (reverse steps.now) part }
+    ensures exact { result ≡ placing schema.now (reverse steps.now) part }
+    ensures memory { length steps.now < 2 ^ 63 }
 {
     let mut now = Placing::Settled {
         site: schema.opening_master(part),
@@ -114,7 +115,7 @@ pub fn placing(schema: &Schema, steps: &[Step], part: Part) -> Placing
     now
 }
 
-pub(crate) fn may_begin_now(now: Placing, site: SiteNo) -> bool
+pub fn may_begin_now(now: Placing, site: SiteNo) -> bool
     ensures { result ≡ may_begin_now now site }
 {
     match now {

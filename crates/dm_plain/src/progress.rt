@@ -22,7 +22,7 @@ fn restart_vector(step: &Step, site: SiteNo) -> Option<Vector>
     }
 }
 
-pub(crate) fn is_restart(step: &Step, site: SiteNo) -> bool
+pub fn is_restart(step: &Step, site: SiteNo) -> bool
     ensures { result ≡ is_restart site step.now }
 {
     match step {
@@ -84,7 +84,7 @@ fn component(vector: Option<Vector>, site: SiteNo) -> u64
 }
 
 /// How many transactions of the origin the site has.
-pub(crate) fn reached(schema: &Schema, steps: &[Step], site: SiteNo, origin: SiteNo) -> u64
+pub fn reached(schema: &Schema, steps: &[Step], site: SiteNo, origin: SiteNo) -> u64
     requires { Legal schema.now steps.now }
     ensures exact { result ≡ reached site (reverse steps.now) origin }
     ensures few { result ≤ length steps.now }

@@ -1,13 +1,15 @@
 //! Which attempts run at which site, and from which vector.
 
-ghost use Rattle.std.specs.Prelude.{◌≡◌, ◌==◌, reverse};
-ghost use Rattle.dm_model.specs.Allowed.{common_key, holder};
+ghost use Rattle.std.specs.Prelude.{◌≡◌, ◌==◌, ◌/◌, reverse};
+ghost use Rattle.std.specs.List.{list_any};
+ghost use Rattle.dm_model.specs.Allowed.{common_key, holder, runner};
+ghost use Rattle.dm_model.specs.Choices.{parts_in_order};
 ghost use Rattle.dm_model.specs.Runs.{runs_after, runs, begun_at, run_site, begin_of, begin_vector, last_begin};
 ghost use Rattle.dm_model.specs.Tests.{same_txn, is_among};
-ghost use Rattle.dm_plain.specs.Adding.{held_by};
+ghost use Rattle.dm_plain.specs.Adding.{held_by, run_by};
 
 use crate::attempts::{declared, same_txn};
-use dm_event::{Key, Schema, SiteNo, Step, TxnId, Vector};
+use dm_event::{Key, Part, Schema, SiteNo, Step, TxnId, Vector};
 
 /// Whether the step begins or ends a run of the attempt at the site.
 fn runs_after(step: &Step, site: SiteNo, attempt: TxnId) -> Option<bool>
@@ -136,6 +138,50 @@ pub fn holder(steps: &[Step], site: SiteNo, keys: &[Key]) -> Option<(TxnId, Key)
     for step in steps {
         if let Some(found) = held(steps, step, site, keys) {
             return Some(found);
+        }
+    }
+    None
+}
+
+fn is_of(schema: &Schema, key: Key, part: Part) -> bool
+    ensures { result ≡ ((key / schema.now.width) == part) }
+{
+    key / schema.width() == u32::from(part)
+}
+
+fn is_any_of(schema: &Schema, keys: &[Key], part: Part) -> bool
+    ensures { result ≡ list_any (λ key. (key / schema.now.width) == part) keys.now }
+{
+    keys.iter().any(|key| is_of(schema, *key, part))
+}
+
+/// Whether one of the keys is of the partition.
+#[tactic(auto, using(crate::proofs::Finding::any_part))]
+pub fn has_part(schema: &Schema, keys: &[Key], part: Part) -> bool
+    ensures { result ≡ is_among (parts_in_order schema.now keys.now) part }
+{
+    is_any_of(schema, keys, part)
+}
+
+/// The attempt that the step began at the site, where it runs and declares a key of the partition.
+fn run_by(schema: &Schema, steps: &[Step], step: &Step, site: SiteNo, part: Part) -> Option<TxnId>
+    ensures { result ≡ run_by schema.now site part (reverse steps.now) step.now }
+{
+    let txn = begun_at(step, site)?;
+    if runs(steps, site, txn) && has_part(schema, declared(steps, txn), part) {
+        Some(txn)
+    } else {
+        None
+    }
+}
+
+/// The earliest begun attempt that runs at the site and declares a key of the partition.
+pub fn runner(schema: &Schema, steps: &[Step], site: SiteNo, part: Part) -> Option<TxnId>
+    ensures { result ≡ runner schema.now (reverse steps.now) site part }
+{
+    for step in steps {
+        if let Some(txn) = run_by(schema, steps, step, site, part) {
+            return Some(txn);
         }
     }
     None

@@ -2,3 +2,4 @@ pub mod Moves
 pub mod Keeping
 pub mod Totals
 pub mod Rest
+pub mod Replies

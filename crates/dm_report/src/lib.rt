@@ -2,9 +2,11 @@
 #![tactic(auto)]
 
 mod moves;
+mod reply;
 mod rest;
 mod totals;
 
+pub use reply::put_reply;
 pub use rest::write_rest;
 
 #[cfg(test)]

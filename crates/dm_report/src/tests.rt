@@ -1,13 +1,10 @@
-ghost use Rattle.std.specs.Prelude.{◌≡◌, true};
-ghost use Rattle.dm_plain.specs.Judging.{is_judged};
-
 use crate::moves::moves_of;
 use crate::rest::{PlacingText, put_moves};
-use crate::write_rest;
+use crate::{put_reply, write_rest};
 use dm_core::Book;
 use dm_event::{
-    Choice, Entry, Found, Keys, Op, Ops, Pair, Pairs, Pending, Placing, Said, Schema, Step, TxnId,
-    Vector, Want, Weights,
+    Cause, Choice, Entry, Found, Keys, Op, Ops, Pair, Pairs, Pending, Placing, Said, Schema, Step,
+    TxnId, Vector, Want, Weights,
 };
 use std::alloc::Global;
 use std::test::Fail;
@@ -30,9 +27,7 @@ fn empty_book(alloc: Global) -> Result<Book, Fail> {
     Ok(Book::new(alloc, &schema, &[0; 32])?)
 }
 
-fn add(book: &mut Book, step: Step) -> Result<(), Fail>
-    requires { is_judged step ≡ true }
-{
+fn add(book: &mut Book, step: Step) -> Result<(), Fail> {
     match book.enabled(&step) {
         Ok(()) => {
             book.reserve(&step)?;
@@ -104,6 +99,19 @@ fn one_transaction(rt: HostRuntime) -> Result<(), Fail> {
     assert_eq!(rt;
         out.as_slice(),
         b"moves 0\nsite 1 [1 0]\nsite 2 [0 0]\npart 0 at 1 epoch 0\npart 1 at 2 epoch 0\ntotal committed 1 read 0 placed 0 restarted 0 in doubt 0 refused 0\nsteps 4\nroute 1.1.1 txn 3 min [0 0] to 1 hand\nbegin 1 1.1.1 [0 0]\ncommit 1 1.1.1 1 [0 0] ops a3:5,g3 reads 3:5 writes 3:5\nreply 1 1 committed 1 1\n".as_slice()
+    );
+    let mut line = Vec::new(alloc);
+    put_reply(
+        alloc,
+        &mut line,
+        &book,
+        1,
+        1,
+        &Said::Committed { site: 1, seq: 1 },
+    )?;
+    assert_eq!(rt;
+        line.as_slice(),
+        b"reply 1 1 committed 1.1 [1 0] reads 3:5\n".as_slice()
     );
     Ok(())
 }
@@ -193,5 +201,43 @@ fn placings(rt: HostRuntime) -> Result<(), Fail> {
     ] {
         assert_eq!(rt; PlacingText(&placing).to_string(alloc)?.as_str(), text);
     }
+    Ok(())
+}
+
+#[test]
+fn replies_have_their_lines(rt: HostRuntime) -> Result<(), Fail> {
+    let alloc = rt.alloc();
+    let book = empty_book(alloc)?;
+    let mut out = Vec::new(alloc);
+    for (number, said) in [
+        (1, Said::InDoubt { site: 2 }),
+        (
+            2,
+            Said::Placed {
+                part: 1,
+                site: 2,
+                epoch: 3,
+            },
+        ),
+        (3, Said::Restarted { site: 2 }),
+        (4, Said::Refused(Cause::Undeclared { key: 7 })),
+        (5, Said::Refused(Cause::Log { site: 2 })),
+        (
+            6,
+            Said::Refused(Cause::Damage {
+                site: 2,
+                place: 40,
+                read: Some(255),
+                written: None,
+            }),
+        ),
+        (7, Said::Refused(Cause::Memory)),
+    ] {
+        put_reply(alloc, &mut out, &book, 32, number, &said)?;
+    }
+    let want = "reply 32 1 in doubt at 2\nreply 32 2 placed 1 at 2 epoch 3\n\
+        reply 32 3 restarted 2\nreply 32 4 refused undeclared 7\nreply 32 5 refused log 2\n\
+        reply 32 6 refused damage 2 at 40 read 255 written -\nreply 32 7 refused memory\n";
+    assert_eq!(rt; out.as_slice(), want.as_bytes());
     Ok(())
 }

@@ -4,7 +4,7 @@ use Rattle.std.specs.Fmt.{decimal, signed_decimal}
 use Rattle.dm_event.specs.declared.step.Step.{Step}
 use Rattle.dm_history.specs.Parts.{choice_text}
 use Rattle.dm_history.specs.Whys.{why_text}
-use Rattle.dm_schedule.specs.Replies.{reply_text}
+use Rattle.dm_report.specs.Replies.{reply_text}
 use Rattle.dm_schedule.specs.declared.answer.Answer.{Answer}
 use Rattle.dm_schedule.specs.declared.answer.Answer.TheVariants as answers
 use Rattle.dm_text.specs.Texts.{txn_text, vector_text}

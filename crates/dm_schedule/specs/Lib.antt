@@ -2,7 +2,6 @@ pub mod Ranges
 pub mod Fields
 pub mod Reading
 pub mod File
-pub mod Replies
 pub mod Answers
 pub mod Drive
 pub mod Driver

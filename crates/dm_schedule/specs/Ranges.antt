@@ -1,20 +1,12 @@
 -- The ranges of the numbers of a line.
-use Rattle.std.specs.Prelude.{ℕ, ◌<◌, ◌≤◌, List, length, Bool, nat_lt, Option, Some, None, All}
+use Rattle.std.specs.Prelude.{ℕ, ◌<◌, ◌≤◌, List, length, Bool, Option, Some, None, All}
 use Rattle.std.specs.List.{list_all}
-use Rattle.dm_event.specs.Layout.{Layout, key_count, is_between}
+use Rattle.dm_event.specs.Layout.{Layout, key_count}
 use Rattle.dm_event.specs.declared.step.Want.{Want}
 use Rattle.dm_event.specs.declared.step.Want.TheVariants.{Txn, Place, Restart}
+use Rattle.dm_model.specs.Shape.{is_key}
 use Rattle.dm_schedule.specs.declared.line.Line.{Line}
 use Rattle.dm_schedule.specs.declared.line.Line.TheVariants.{Route, Begin, Get, Put, Add, Commit, Reply, Refresh}
-
-abbrev pub is_session : ℕ → Bool
-is_session c = is_between 1 32 c
-
-abbrev pub is_site : Layout → ℕ → Bool
-is_site layout i = is_between 1 layout.sites i
-
-abbrev pub is_key : Layout → ℕ → Bool
-is_key layout k = nat_lt k (key_count layout)
 
 unfoldable pub are_keys : Layout → List ℕ → Bool
 are_keys layout keys = list_all (λ k. is_key layout k) keys

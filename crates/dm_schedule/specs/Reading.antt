@@ -12,7 +12,8 @@ use Rattle.dm_text.specs.Text.{number_of}
 use Rattle.dm_schedule.specs.declared.line.Line.{Line}
 use Rattle.dm_schedule.specs.declared.line.Line.TheVariants as line
 use Rattle.dm_schedule.specs.Fields.{Words, ◌>>=◌, made, check, or_fault, word_at, fixed, counted, u8_at, u16_at, u32_at, i64_at, numbers_from}
-use Rattle.dm_schedule.specs.Ranges.{is_session, is_site, is_key, are_keys}
+use Rattle.dm_schedule.specs.Ranges.{are_keys}
+use Rattle.dm_model.specs.Shape.{is_site, is_key}
 
 -- the fixed words of a header
 unfoldable pub header_words : Words → Result (Unit {0}) LineFault
@@ -65,7 +66,7 @@ route_of layout ws = do
   session ← u32_at ws 1
   site ← u8_at ws 3
   keys ← numbers_from [] (2 ^ 32 - 1) (drop 5 ws)
-  range ← check Range (is_session session)
+  range ← check Range (is_between 1 32 session)
   range ← check Range (is_site layout site)
   declared ← declared_of layout keys
   Ok (line.Route session (want.Txn declared) (Some site))
@@ -75,7 +76,7 @@ unfoldable pub session_of : Words → Result ℕ LineFault
 session_of ws = do
   count ← counted ws 2 2
   session ← u32_at ws 1
-  range ← check Range (is_session session)
+  range ← check Range (is_between 1 32 session)
   Ok session
 
 -- `get S K`
@@ -84,7 +85,7 @@ get_of layout ws = do
   count ← counted ws 3 3
   session ← u32_at ws 1
   key ← u32_at ws 2
-  range ← check Range (is_session session)
+  range ← check Range (is_between 1 32 session)
   range ← check Range (is_key layout key)
   Ok (line.Get session key)
 
@@ -95,7 +96,7 @@ write_of layout ws = do
   session ← u32_at ws 1
   key ← u32_at ws 2
   number ← i64_at ws 3
-  range ← check Range (is_session session)
+  range ← check Range (is_between 1 32 session)
   range ← check Range (is_key layout key)
   Ok (session, key, number)
 

@@ -7,10 +7,10 @@ ghost use Rattle.dm_history.specs.Whys.{why_text};
 ghost use Rattle.dm_schedule.specs.Answers.{answer_text};
 ghost use Rattle.dm_text.specs.Text.{Appends};
 
-use crate::reply::put_reply;
 use dm_core::Book;
 use dm_event::{Choice, NoMemory, Said, SiteNo, TxnId, Value, Vector, Why};
 use dm_history::put_why;
+use dm_report::put_reply;
 use dm_text::{TxnText, VectorText};
 use std::alloc::Global;
 use std::fmt;

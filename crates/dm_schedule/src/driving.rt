@@ -2,7 +2,6 @@
 
 ghost use Rattle.std.specs.Prelude.{◌≡◌, ◌+◌, ◌<◌, ◌≤◌, ◌^◌, ◌-◌, true, None, Ok, All, IfOk, OnOk, length, vec_len};
 ghost use Rattle.dm_model.specs.Shape.{is_shaped};
-ghost use Rattle.dm_plain.specs.Judging.{is_judged};
 ghost use Rattle.dm_schedule.specs.Drive.{start, refusal_of, pushed, next_txn, least_due, vector_of, routed_at, routed_of, running_of, is_declared, value_due, entry_due, end_due, outcome_due, ops_of, route_line, begin_line, get_line, write_line, commit_of, end_of, commit_line, reply_line, refresh_line, by_line, answer_of, drive_of, answers_of};
 ghost use Rattle.dm_schedule.specs.Driver.{seen};
 ghost use Rattle.dm_schedule.specs.Ranges.{Fits, IsSession};
@@ -13,13 +12,13 @@ use crate::done::Done;
 use crate::file::Schedule;
 use crate::line::Line;
 use crate::replay::{read_after, replay};
-use dm_body::Ran;
+use dm_body::{Ran, has_writes};
 use dm_core::Book;
 use dm_event::{
     Attempt, AttemptState, Choice, Entry, Key, NoMemory, Op, Said, Schema, SiteNo, Step, TxnId,
     Value, Vector, Want, Why,
 };
-use dm_plain::{Reading, begin_vector, declared, entry_count, has_writes, replies, routes};
+use dm_plain::{Reading, begin_vector, declared, entry_count, replies, routes};
 use std::alloc::Global;
 
 /// An attempt that runs.
@@ -65,7 +64,6 @@ impl Driver {
     /// Adds the step to the history where it is allowed; else says why it isn't.
     #[tactic(auto, unfolding(crate::specs::Drive::refusal_of))]
     fn push(&mut self, step: Step) -> Result<Option<Why>, NoMemory>
-        requires { is_judged step ≡ true }
         ensures why { IfOk result (λ why. why ≡ refusal_of (seen self.old) step) }
         ensures does { IfOk result (λ why. seen self.new ≡ pushed why (seen self.old) step) }
         ensures shaped { IfOk result (λ why. why ≡ None → is_shaped self.old.book.layout step ≡ true) }
@@ -189,8 +187,7 @@ impl Driver {
     fn end_due(&self, alloc: Global, session: u32, run: &Run) -> Result<Step, NoMemory>
         requires session { IsSession session }
         requires ops { vec_len self.now.ops ≡ 32 }
-        ensures end { IfOk result (λ step. step ≡ end_due (seen self.now) session run.now) }
-        ensures judged { IfOk result (λ step. is_judged step ≡ true) }
+        ensures { IfOk result (λ step. step ≡ end_due (seen self.now) session run.now) }
     {
         let mut reading = Reading {
             schema: self.book.schema(),
@@ -310,7 +307,6 @@ impl Driver {
 
     /// Ends an attempt that began at this vector.
     fn end(&mut self, end: Step, begin: Vector) -> Result<Answer, NoMemory>
-        requires { is_judged end ≡ true }
         ensures { IfOk result (λ a. (seen self.new, a) ≡ end_of (seen self.old) end begin) }
     {
         match self.push(end)? {

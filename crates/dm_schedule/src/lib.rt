@@ -10,7 +10,6 @@ mod file;
 mod line;
 mod reading;
 mod replay;
-mod reply;
 
 pub use driving::drive;
 pub use file::{Schedule, read};

@@ -1,9 +1,10 @@
 //! What a line says, by its words.
 
 ghost use Rattle.std.specs.Prelude.{◌≡◌, ◌≤◌, ◌<◌, All, IfOk, OnOk, IsTrue, length, drop};
-ghost use Rattle.dm_event.specs.Layout.{is_layout, key_count};
+ghost use Rattle.dm_event.specs.Layout.{is_between, is_layout, key_count};
 ghost use Rattle.dm_schedule.specs.Fields.{Gives, spelled};
-ghost use Rattle.dm_schedule.specs.Ranges.{Fits, IsSession, is_session, is_site, is_key, are_keys};
+ghost use Rattle.dm_model.specs.Shape.{is_site, is_key};
+ghost use Rattle.dm_schedule.specs.Ranges.{Fits, IsSession, are_keys};
 ghost use Rattle.dm_schedule.specs.Reading.{header_words, header_count, header_of, is_for_parts, declared_of, route_count, route_of, session_of, get_of, write_of, refresh_of, line_of};
 
 use crate::fault::LineError;
@@ -72,7 +73,7 @@ pub(crate) fn header_of(alloc: Global, words: &[&[u8]]) -> Result<Schema, LineEr
 }
 
 fn is_session(session: u32) -> bool
-    ensures { result ≡ is_session session }
+    ensures { result ≡ is_between 1 32 session }
 {
     1 <= session && session <= 32
 }

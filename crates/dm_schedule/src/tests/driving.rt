@@ -1,7 +1,5 @@
-use crate::reply::put_reply;
 use crate::{drive, read};
-use dm_core::Book;
-use dm_event::{Cause, NoMemory, Said, Schema, Weights};
+use dm_event::NoMemory;
 use std::alloc::Global;
 use std::test::Fail;
 
@@ -98,50 +96,5 @@ fn the_65th_op(rt: HostRuntime) -> Result<(), Fail> {
         refused ops\nrefused ops\n"
     )?;
     assert_eq!(rt; answers(alloc, lines.as_str())?.as_slice(), want.as_bytes());
-    Ok(())
-}
-
-#[test]
-fn replies_have_their_lines(rt: HostRuntime) -> Result<(), Fail> {
-    let alloc = rt.alloc();
-    let masters = vec![in alloc; 1, 2]?;
-    let weights = Weights {
-        balance: 1,
-        delay: 1,
-        together: 1,
-    };
-    let schema = Schema::new(2, 10, masters, weights, Vec::new(alloc)).ok_or("a schema")?;
-    let book = Book::new(alloc, &schema, &[0; 32])?;
-    let mut out = Vec::new(alloc);
-    for (number, said) in [
-        (1, Said::InDoubt { site: 2 }),
-        (
-            2,
-            Said::Placed {
-                part: 1,
-                site: 2,
-                epoch: 3,
-            },
-        ),
-        (3, Said::Restarted { site: 2 }),
-        (4, Said::Refused(Cause::Undeclared { key: 7 })),
-        (5, Said::Refused(Cause::Log { site: 2 })),
-        (
-            6,
-            Said::Refused(Cause::Damage {
-                site: 2,
-                place: 40,
-                read: Some(255),
-                written: None,
-            }),
-        ),
-        (7, Said::Refused(Cause::Memory)),
-    ] {
-        put_reply(alloc, &mut out, &book, 32, number, &said)?;
-    }
-    let want = "reply 32 1 in doubt at 2\nreply 32 2 placed 1 at 2 epoch 3\n\
-        reply 32 3 restarted 2\nreply 32 4 refused undeclared 7\nreply 32 5 refused log 2\n\
-        reply 32 6 refused damage 2 at 40 read 255 written -\nreply 32 7 refused memory\n";
-    assert_eq!(rt; out.as_slice(), want.as_bytes());
     Ok(())
 }

@@ -1,9 +1,9 @@
-use Rattle.std.proofs.Common.{arith, ◌∙◌, ap, sym, subst, ◌++◌, ℕ, List}
+use Rattle.std.proofs.Common.{◌≡◌, arith, ◌∙◌, ap, sym, subst, ◌++◌, ℕ, List, length}
 use Rattle.std.proofs.lemmas.List.{append-nil}
 use Rattle.std.proofs.lemmas.Result.{err_from_is_err_and}
-use Rattle.dm_schedule.specs.Drive.{Drive}
+use Rattle.dm_schedule.specs.Drive.{Drive, driven, start}
 use Rattle.dm_schedule.specs.Driver.{seen}
-use Rattle.dm_schedule.proofs.Begins.{begins_further, begins_more}
+use Rattle.dm_schedule.proofs.Begins.{begins_further, begins_more, begins_same}
 use Rattle.dm_schedule.proofs.Keeps.{Keeps, line_keeps}
 use Rattle.dm_schedule.proofs.Lines.{history_more, answers_more, driven_end}
 use Rattle.dm_schedule.proofs.driving.drive.Goals as goal
@@ -12,6 +12,21 @@ pub returns-in_err-answer-clause-answers : goal.returns-in_err-answer-clause-ans
 returns-in_err-answer-clause-answers c =
     let error = err_from_is_err_and c.from_residual-in_err-answer.result c.from_residual-in_err-answer.ensures.1 in
     rw (error.1) (begins_further _ _ _ c.in_err-answer.ensures.answers c.loop-line.invariant.begins)
+
+pub loop-line-init : goal.loop-line-init
+loop-line-init c =
+    let e : seen c.in_ok-driver.driver ≡ start c.args.schedule.now.schema = c.in_ok-driver.ensures in
+    let lines = c.args.schedule.now.lines.items in
+    let long = ap (λ (d : Drive). length d.ops) e in
+    let none = ap (λ (d : Drive). length d.history) e in
+    record {
+      layout = ap (λ (d : Drive). d.layout) e;
+      ops = omega (arith, long, c.in_ok-driver.driver.ops.ok.0);
+      steps = omega (arith, none);
+      history = ap (λ (d : Drive). (driven d lines).0) e;
+      answers = ap (λ (d : Drive). c.args.out.now.items ++ (driven d lines).1) e;
+      begins = begins_same c.args.out.now.items;
+    }
 
 pub loop-line-preserved : goal.loop-line-preserved
 loop-line-preserved c =

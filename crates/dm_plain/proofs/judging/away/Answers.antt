@@ -1,4 +1,0 @@
-use Rattle.dm_plain.proofs.judging.away.Goals as goal
-
-pub placing-requires : goal.placing-requires
-placing-requires c = c.in-Some.ensures.inside

@@ -1,7 +1,0 @@
-use Rattle.std.proofs.Common.{◌≡◌, take}
-use Rattle.std.specs.Prelude.{reverse, option_copied}
-use Rattle.dm_schedule.specs.Replies.{item_reads}
-use Rattle.dm_schedule.proofs.reply.item_reads.Given as goal
-
-abbrev pub invariant-loop-step : goal.invariant-loop-step
-invariant-loop-step l = option_copied l.last ≡ item_reads l.session l.number (reverse (take l.step-index l.steps))
