@@ -20,3 +20,4 @@ pub use fold::{first_undeclared, has_writes, run, undeclared_in};
 pub use law::writes_ascend;
 pub use overlay::{OpResult, Overlay, Ran};
 pub use view::View;
+pub use writes::written;

@@ -8,8 +8,8 @@ ghost use Rattle.dm_model.specs.Bodies.{put};
 use crate::View;
 use dm_event::{Key, Pair, Value};
 
-/// The own write of the key.
-pub(crate) fn written(writes: &[Pair], key: Key) -> Option<Value>
+/// The value that the pairs give the key.
+pub fn written(writes: &[Pair], key: Key) -> Option<Value>
     ensures { result ≡ written writes.now key }
 {
     for pair in writes {

@@ -10,4 +10,5 @@ mod reason;
 mod tests;
 
 pub use fault::HistoryError;
+pub use part::{ByteText, ChoiceText};
 pub use printing::{print_step, print_why, put_step, put_why};

@@ -85,8 +85,9 @@ impl fmt::Display for WantText<'_> {
     }
 }
 
+/// Displays how a site was chosen.
 #[derive(Drop)]
-pub(crate) struct ChoiceText(pub(crate) Choice);
+pub struct ChoiceText(pub Choice);
 
 impl fmt::Display for ChoiceText {
     ghost output = { λ t. Some (choice_text t.0) };
@@ -118,9 +119,9 @@ impl fmt::Display for FoundText {
     }
 }
 
-// A byte of a log, which may be past its end.
+/// Displays a byte of a log, which may be past its end.
 #[derive(Drop)]
-struct ByteText(Option<u8>);
+pub struct ByteText(pub Option<u8>);
 
 impl fmt::Display for ByteText {
     ghost output = { λ t. Some (byte_text t.0) };

@@ -6,7 +6,7 @@ use Rattle.std.specs.Prelude.{option_map, unwrap_or}
 use Rattle.dm_event.specs.declared.step.TxnId.{TxnId}
 use Rattle.dm_locks.proofs.Answers.{got_where_none}
 use Rattle.dm_locks.proofs.Counts.{count-append, count_none, each_both}
-use Rattle.dm_locks.proofs.Members.{In, each_at, each_from, found_in, in_contains, in_counted, in_from, in_left, in_right, not_both_in_front, same_is, txn_self}
+use Rattle.dm_locks.proofs.Members.{In, each_at, each_from, found_in, in_contains, in_counted, in_from, in_left, in_right, not_both_in_front, txn_self}
 use Rattle.dm_locks.proofs.Merging.{found_among}
 use Rattle.dm_locks.proofs.Overtaking.{Kept, run_kept}
 use Rattle.dm_locks.proofs.Places.{filter_keeps}
@@ -16,6 +16,7 @@ use Rattle.dm_locks.specs.Claims.{answer, before, is_of, is_of_session, without}
 use Rattle.dm_locks.specs.Locks.{Locks, ahead, answer_at_poll}
 use Rattle.dm_locks.specs.declared.claim.Claim.{Claim}
 use Rattle.dm_locks.specs.declared.table.LockAnswer.TheVariants.{Got}
+use Rattle.dm_model.proofs.SameValues.{txn_same}
 use Rattle.dm_model.proofs.ListFacts.{each_map, found_holds}
 use Rattle.dm_model.specs.Allowed.{common_key}
 use Rattle.dm_model.specs.Tests.{is_among}
@@ -137,5 +138,5 @@ emptied locks r =
     (each_from (λ x. Each (λ c. is_of x.txn c ≡ false) locks.waiters) locks.holders (λ x m. each_from (λ c. is_of x.txn c ≡ false) locks.waiters (λ c n. other x c m n (is_of x.txn c) refl))))
   where
     other : (x c : Claim) → In x locks.holders → In c locks.waiters → (b : Bool) → is_of x.txn c ≡ b → is_of x.txn c ≡ false
-    other x c m n true e = absurd (holds_or_waits locks r x c m n (ap (λ (t : TxnId). t.session) (sym (same_is c.txn x.txn e))))
+    other x c m n true e = absurd (holds_or_waits locks r x c m n (ap (λ (t : TxnId). t.session) (sym (txn_same c.txn x.txn e))))
     other x c m n false e = e

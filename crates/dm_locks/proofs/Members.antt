@@ -1,11 +1,12 @@
 -- What stands in a list, and in front of what.
 use Rattle.std.proofs.Common.{ℕ, zero, suc, ◌<◌, ◌≤◌, ◌≡◌, Bool, true, false, ◌==◌, not, cond, List, [], ◌∷◌, ◌++◌, length, get_or, Some, None, refl, sym, ap, ◌∙◌, subst, arith, inl, inr, ◌⊎◌}
-use Rattle.std.proofs.lemmas.Bool.{and_parts, and_from, eqb-true, eq-eqb, false≢true}
+use Rattle.std.proofs.lemmas.Bool.{and_from, eq-eqb, false≢true}
 use Rattle.std.specs.List.{AllByRecursion as Each, Contains}
 use Rattle.std.specs.Prelude.{find}
 use Rattle.dm_event.specs.declared.step.TxnId.{TxnId}
 use Rattle.dm_locks.specs.Claims.{before, claim_of, is_of, without}
 use Rattle.dm_locks.specs.declared.claim.Claim.{Claim}
+use Rattle.dm_model.proofs.SameValues.{txn_same}
 use Rattle.dm_model.specs.Tests.{same_txn}
 use Rattle.dm_model.specs.Words.{count_of}
 
@@ -68,17 +69,6 @@ found_in p x (y ∷ ys) h = by_test (p y) (found_in p x ys) h
 pub txn_self : (txn : TxnId) → same_txn txn txn ≡ true
 txn_self txn = and_from (txn.session == txn.session) _ (eq-eqb txn.session txn.session refl) (and_from (txn.number == txn.number) _ (eq-eqb txn.number txn.number refl) (eq-eqb txn.attempt txn.attempt refl))
 
-pub same_is : (a b : TxnId) → same_txn a b ≡ true → a ≡ b
-same_is a b h =
-    let p = and_parts (a.session == b.session) _ h in
-    let q = and_parts (a.number == b.number) _ p.1 in
-    let x : a.session ≡ b.session = eqb-true a.session b.session p.0 in
-    let y : a.number ≡ b.number = eqb-true a.number b.number q.0 in
-    let z : a.attempt ≡ b.attempt = eqb-true a.attempt b.attempt q.1 in
-    ap (λ (n : ℕ). record { session = n; number = a.number; attempt = a.attempt }) x
-    ∙ ap (λ (n : ℕ). record { session = b.session; number = n; attempt = a.attempt }) y
-    ∙ ap (λ (n : ℕ). record { session = b.session; number = b.number; attempt = n }) z
-
 -- ---- in front
 
 before_step : (txn : TxnId) (claim other : Claim) (claims more : List Claim) (b : Bool) → cond b (Some other) (claim_of txn claims) ≡ Some claim
@@ -140,8 +130,8 @@ before_without R a t n (c ∷ cs) h = by_tests (is_of a c) (is_of t c) refl refl
     by_tests : (b d : Bool) → is_of a c ≡ b → is_of t c ≡ d → Each R (cond b [] (c ∷ before a cs)) → (Each R (before a cs) → Each R (before a (without t cs)))
         → Each R (before a (cond (not d) (c ∷ without t cs) (without t cs)))
     by_tests true true q r h rest =
-        let e : c.txn ≡ a = same_is c.txn a q in
-        let f : c.txn ≡ t = same_is c.txn t r in
+        let e : c.txn ≡ a = txn_same c.txn a q in
+        let f : c.txn ≡ t = txn_same c.txn t r in
         absurd (false≢true (sym n ∙ ap (λ (z : TxnId). same_txn a z) (sym f ∙ e) ∙ txn_self a))
     by_tests true false q r h rest = subst (λ (b : Bool). Each R (cond b [] (c ∷ before a (without t cs)))) (sym q) tt
     by_tests false true q r h rest = rest h.1

@@ -6,12 +6,13 @@ use Rattle.std.specs.Prelude.{if◌then◌else◌, option_map, unwrap_or}
 use Rattle.dm_event.specs.declared.step.TxnId.{TxnId}
 use Rattle.dm_locks.proofs.Answers.{got_from, got_shares_none}
 use Rattle.dm_locks.proofs.Counts.{each_both, each_filter}
-use Rattle.dm_locks.proofs.Members.{In, before_asked, before_without, each_at, found_in, gone, in_right, one_in_front, same_is, txn_self}
+use Rattle.dm_locks.proofs.Members.{In, before_asked, before_without, each_at, found_in, gone, in_right, one_in_front, txn_self}
 use Rattle.dm_locks.specs.Calls.{Call, Ask, Poll, GiveBack, Clear, IsWaiting, Share, WaitsOn, after, after_all}
 use Rattle.dm_locks.specs.Claims.{answer, before, claim_of, is_of, without}
 use Rattle.dm_locks.specs.Locks.{Locks, ahead, answer_at_poll, asked, everyone, granted, is_got, keys_of, polled}
 use Rattle.dm_locks.specs.declared.claim.Claim.{Claim}
 use Rattle.dm_locks.specs.declared.table.LockAnswer.TheVariants.{Got}
+use Rattle.dm_model.proofs.SameValues.{txn_same}
 use Rattle.dm_model.proofs.KeysAndBodies.{no_common}
 use Rattle.dm_model.proofs.ListFacts.{found_holds}
 use Rattle.dm_model.specs.Allowed.{common_key}
@@ -49,7 +50,7 @@ asked_kept Q R claim asker locks waits h = by_answer (is_got (answer asker.keys 
 still : (txn : TxnId) (claim : Claim) (claims : List Claim) → claim_of claim.txn (without txn claims) ≡ Some claim → same_txn claim.txn txn ≡ false
 still txn claim claims waits = elim (cases_Bool (same_txn claim.txn txn)) [
   | inl same ↦
-      let there : claim_of txn (without txn claims) ≡ Some claim = subst (λ (t : TxnId). claim_of t (without txn claims) ≡ Some claim) (same_is claim.txn txn same) waits in
+      let there : claim_of txn (without txn claims) ≡ Some claim = subst (λ (t : TxnId). claim_of t (without txn claims) ≡ Some claim) (txn_same claim.txn txn same) waits in
       absurd (let nothing = gone txn claims in cc (nothing, there))
   | inr other ↦ other
 ]
@@ -61,8 +62,8 @@ polled_kept Q R claim txn locks rq waits later h = by_answer (is_got (answer_at_
     differs : (mover : Claim) → claim_of txn locks.waiters ≡ Some mover → same_txn claim.txn txn ≡ false → is_of claim.txn mover ≡ false
     differs mover found other = elim (cases_Bool (is_of claim.txn mover)) [
       | inl same ↦
-          let a : mover.txn ≡ claim.txn = same_is mover.txn claim.txn same in
-          let b : mover.txn ≡ txn = same_is mover.txn txn (found_holds (is_of txn) locks.waiters mover found) in
+          let a : mover.txn ≡ claim.txn = txn_same mover.txn claim.txn same in
+          let b : mover.txn ≡ txn = txn_same mover.txn txn (found_holds (is_of txn) locks.waiters mover found) in
           absurd (false≢true (sym other ∙ ap (λ (t : TxnId). same_txn claim.txn t) (sym b ∙ a) ∙ txn_self claim.txn))
       | inr n ↦ n
     ]

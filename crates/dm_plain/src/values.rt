@@ -2,12 +2,12 @@
 
 ghost use Rattle.std.specs.Prelude.{◌≡◌, reverse, option_copied};
 ghost use Rattle.dm_model.specs.Acts.{entries};
-ghost use Rattle.dm_model.specs.Values.{written, newest, value};
+ghost use Rattle.dm_model.specs.Values.{newest, value};
 ghost use Rattle.dm_plain.specs.Adding.{written_by};
 
 use crate::acts::entry_of;
-use dm_body::View;
-use dm_event::{Entry, Key, Pair, Schema, Step, Value, Vector};
+use dm_body::{View, written};
+use dm_event::{Entry, Key, Schema, Step, Value, Vector};
 
 /// The values of the keys at a vector.
 #[derive(Drop)]
@@ -53,16 +53,4 @@ fn written_by(entry: Option<&Entry>, key: Key, at: &Vector) -> Option<Value>
         Some(entry) if entry.seq <= at.get(entry.origin) => written(entry.writes.as_slice(), key),
         _ => None,
     }
-}
-
-/// The value that the pairs give the key.
-pub(crate) fn written(pairs: &[Pair], key: Key) -> Option<Value>
-    ensures { result ≡ written pairs.now key }
-{
-    for pair in pairs {
-        if pair.key == key {
-            return Some(pair.value);
-        }
-    }
-    None
 }

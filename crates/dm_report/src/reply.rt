@@ -6,10 +6,10 @@ ghost use Rattle.dm_model.specs.Acts.{entry_at};
 ghost use Rattle.dm_model.specs.Runs.{begin_of};
 ghost use Rattle.dm_report.specs.Replies.{is_of_item, end_reads, item_begin, item_reads, both, saw_commit, saw, shown, saw_text, reason_text, outcome_text, reply_text};
 ghost use Rattle.dm_text.specs.Text.{Appends};
-ghost use Rattle.dm_history.specs.Parts.{byte_text};
 
 use dm_core::Book;
 use dm_event::{Cause, NoMemory, Pairs, Said, SiteNo, Step, TxnId, Vector};
+use dm_history::ByteText;
 use dm_plain::entry_at;
 use dm_text::{PairsText, VectorText};
 use std::alloc::Global;
@@ -107,22 +107,6 @@ impl fmt::Display for SawText<'_> {
                 write!(f, " {vector} reads {reads}")
             }
             None => Ok(()),
-        }
-    }
-}
-
-// A byte of a log, which may be past its end.
-#[derive(Drop)]
-struct ByteText(Option<u8>);
-
-impl fmt::Display for ByteText {
-    ghost output = { λ t. Some (byte_text t.0) };
-
-    #[tactic(auto, unfolding(dm_history::specs::Parts::byte_text))]
-    fn fmt<W: fmt::Write>(&self, f: &mut fmt::Formatter<W>) -> fmt::Result {
-        match self.0 {
-            Some(byte) => write!(f, "{byte}"),
-            None => write!(f, "-"),
         }
     }
 }

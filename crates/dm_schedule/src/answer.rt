@@ -2,18 +2,16 @@
 
 ghost use Rattle.std.specs.Prelude.{◌++◌, Some, codes};
 ghost use Rattle.dm_core.specs.Ledger.{past};
-ghost use Rattle.dm_history.specs.Parts.{choice_text};
 ghost use Rattle.dm_history.specs.Whys.{why_text};
 ghost use Rattle.dm_schedule.specs.Answers.{answer_text};
 ghost use Rattle.dm_text.specs.Text.{Appends};
 
 use dm_core::Book;
 use dm_event::{Choice, NoMemory, Said, SiteNo, TxnId, Value, Vector, Why};
-use dm_history::put_why;
+use dm_history::{ChoiceText, put_why};
 use dm_report::put_reply;
 use dm_text::{TxnText, VectorText};
 use std::alloc::Global;
-use std::fmt;
 
 /// What a command line is answered.
 #[derive(Clone, Copy, Debug, PartialEq, Eq)]
@@ -56,23 +54,6 @@ pub(crate) enum Answer {
     Refused(Why),
     /// The attempt has done 64 ops.
     RefusedOps,
-}
-
-#[derive(Drop)]
-struct ChoiceText(Choice);
-
-impl fmt::Display for ChoiceText {
-    ghost output = { λ t. Some (choice_text t.0) };
-
-    #[tactic(auto, unfolding(dm_history::specs::Parts::choice_text))]
-    fn fmt<W: fmt::Write>(&self, f: &mut fmt::Formatter<W>) -> fmt::Result {
-        match self.0 {
-            Choice::Master => write!(f, "master"),
-            Choice::Best => write!(f, "best"),
-            Choice::Reader => write!(f, "reader"),
-            Choice::Hand => write!(f, "hand"),
-        }
-    }
 }
 
 fn append(out: &mut Vec<u8>, text: &str) -> Result<(), NoMemory>

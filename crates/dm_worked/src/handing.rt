@@ -1,8 +1,8 @@
 //! A partition goes from one site to another.
 
 use crate::steps::{
-    SETTLE, ask, ask_for, begin, book, by_hand, first_of, grant, moved, placing, push, push_all,
-    refresh, refused, release, reply, restart, route, start, vector, write,
+    PLACED, SETTLE, ask, ask_for, begin, book, by_hand, first_of, grant, moved, placing, push,
+    push_all, refresh, refused, release, reply, restart, route, start, vector, write,
 };
 use dm_core::{AttemptState, Book, Placing};
 use dm_event::{Choice, Entry, Found, Op, Ops, Pair, Pairs, Said, Step, TxnId, Want, Why};
@@ -71,12 +71,6 @@ fn added(alloc: Global) -> Result<Book, Fail> {
     push_all(&mut book, steps)?;
     Ok(book)
 }
-
-const PLACED: Said = Said::Placed {
-    part: 0,
-    site: 2,
-    epoch: 1,
-};
 
 #[test]
 fn a_writer_holds_its_key(rt: HostRuntime) -> Result<(), Fail> {

@@ -2,7 +2,8 @@
 
 use crate::handing::asked;
 use crate::steps::{
-    begin, book, first_of, placing, push, push_all, refresh, refused, restart, vector, writer,
+    begin, book, doubted_grant, doubted_release, first_of, placing, push, push_all, refresh,
+    refused, restart, vector, writer,
 };
 use dm_core::{AttemptState, Book, Placing};
 use dm_event::{Found, Pending, Step, Why};
@@ -12,28 +13,17 @@ use std::test::Fail;
 /// Site 1 has one transaction, and doesn't know whether it released partition 0 to site 2.
 fn release_in_doubt(alloc: Global) -> Result<Book, Fail> {
     let mut book = asked(alloc)?;
-    let pending = Pending::Release {
-        part: 0,
-        epoch: 0,
-        to: 2,
-        vector: vector(1, 0),
-    };
-    push(&mut book, Step::Doubt { site: 1, pending })?;
+    push(&mut book, doubted_release(vector(1, 0)))?;
     Ok(book)
 }
 
 /// The release is kept, and site 2 doesn't know whether it took the partition over.
 fn grant_in_doubt(alloc: Global) -> Result<Book, Fail> {
     let mut book = release_in_doubt(alloc)?;
-    let pending = Pending::Grant {
-        part: 0,
-        epoch: 1,
-        vector: vector(1, 0),
-    };
     let steps = [
         restart(1, vector(1, 0), Found::Kept),
         refresh(2, 1),
-        Step::Doubt { site: 2, pending },
+        doubted_grant(vector(1, 0)),
     ];
     push_all(&mut book, steps)?;
     Ok(book)

@@ -2,11 +2,11 @@
 
 use crate::stages::{FIRST, clean, commit, fail, send};
 use crate::steps::{
-    SETTLE, ask_for, book, by_hand, first_of, grant, moved, push, read, refresh, refused, release,
-    reply, route, start, vector,
+    PLACED, SETTLE, ask_for, book, by_hand, doubted_grant, doubted_release, first_of, grant, moved,
+    push, read, refresh, refused, release, reply, route, start, vector,
 };
 use dm_core::Book;
-use dm_event::{Cause, Choice, Pending, Said, Step, Want, Why};
+use dm_event::{Cause, Choice, Step, Want, Why};
 use std::alloc::Global;
 use std::test::Fail;
 
@@ -104,32 +104,6 @@ const KINDS: [Kind; 17] = [
     Kind::Reply,
 ];
 
-fn doubted_release() -> Step {
-    let pending = Pending::Release {
-        part: 0,
-        epoch: 0,
-        to: 2,
-        vector: vector(0, 0),
-    };
-    Step::Doubt { site: 1, pending }
-}
-
-fn doubted_grant() -> Step {
-    let pending = Pending::Grant {
-        part: 0,
-        epoch: 1,
-        vector: vector(0, 0),
-    };
-    Step::Doubt { site: 2, pending }
-}
-
-/// The hand-over is done.
-const PLACED: Said = Said::Placed {
-    part: 0,
-    site: 2,
-    epoch: 1,
-};
-
 fn step_of(alloc: Global, kind: Kind) -> Result<Step, Fail> {
     match kind {
         Kind::Route => route(alloc, first_of(4), &[3], vector(0, 0), (1, Choice::Master)),
@@ -146,8 +120,8 @@ fn step_of(alloc: Global, kind: Kind) -> Result<Step, Fail> {
         Kind::Release => Ok(release(vector(0, 0))),
         Kind::Grant => Ok(grant(vector(0, 0))),
         Kind::Settle => Ok(SETTLE),
-        Kind::DoubtedRelease => Ok(doubted_release()),
-        Kind::DoubtedGrant => Ok(doubted_grant()),
+        Kind::DoubtedRelease => Ok(doubted_release(vector(0, 0))),
+        Kind::DoubtedGrant => Ok(doubted_grant(vector(0, 0))),
         Kind::Reply => Ok(reply(3, PLACED)),
     }
 }

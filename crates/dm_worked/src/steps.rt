@@ -4,8 +4,8 @@ ghost use Rattle.std.specs.Prelude.{◌≤◌};
 
 use dm_core::{Book, Placing};
 use dm_event::{
-    Choice, Entry, Found, Key, Keys, Op, Ops, Pair, Pairs, Part, Said, Schema, SiteNo, Step, TxnId,
-    Value, Vector, Want, Weights, Why,
+    Choice, Entry, Found, Key, Keys, Op, Ops, Pair, Pairs, Part, Pending, Said, Schema, SiteNo,
+    Step, TxnId, Value, Vector, Want, Weights, Why,
 };
 use std::alloc::Global;
 use std::test::Fail;
@@ -210,6 +210,34 @@ pub(crate) const fn grant(vector: Vector) -> Step {
 }
 
 pub(crate) const SETTLE: Step = Step::Settle { part: 0, epoch: 1 };
+
+/// Site 1 doesn't know whether it gave partition 0 away.
+pub(crate) const fn doubted_release(vector: Vector) -> Step {
+    let pending = Pending::Release {
+        part: 0,
+        epoch: 0,
+        to: 2,
+        vector,
+    };
+    Step::Doubt { site: 1, pending }
+}
+
+/// Site 2 doesn't know whether it took it over.
+pub(crate) const fn doubted_grant(vector: Vector) -> Step {
+    let pending = Pending::Grant {
+        part: 0,
+        epoch: 1,
+        vector,
+    };
+    Step::Doubt { site: 2, pending }
+}
+
+/// The hand-over of partition 0 to site 2 is done.
+pub(crate) const PLACED: Said = Said::Placed {
+    part: 0,
+    site: 2,
+    epoch: 1,
+};
 
 pub(crate) const fn restart(site: SiteNo, vector: Vector, found: Found) -> Step {
     Step::Restart {
