@@ -17,8 +17,8 @@ use crate::choosing::choice_due;
 use crate::handing::{ask_why, grant_why, release_why, settle_why};
 use crate::restarting::restart_why;
 use crate::rows::{
-    begin_refusal, commit_refusal, end_refusal, fail_refusal, moved_refusal, refresh_refusal,
-    reply_refusal, route_refusal,
+    BeginReads, CommitReads, begin_refusal, commit_refusal, end_refusal, fail_refusal,
+    moved_refusal, refresh_refusal, reply_refusal, route_refusal,
 };
 use crate::shape::is_shaped;
 use dm_body::{body_fits, has_writes, reads_fit, undeclared_in};
@@ -153,16 +153,15 @@ fn begin_why(
     ensures { result ≡ first (begin_clauses schema.now (reverse steps.now) site txn begin.now) }
 {
     let keys = declared(steps, txn);
-    begin_refusal(
-        routed_to(steps, txn),
-        is_down(steps, site),
-        elsewhere(schema, steps, site, keys),
-        site_vector(schema, steps, site),
-        behind(schema, steps, txn, begin),
-        holder(steps, site, keys),
-        site,
-        begin,
-    )
+    let reads = BeginReads {
+        to: routed_to(steps, txn),
+        down: is_down(steps, site),
+        elsewhere: elsewhere(schema, steps, site, keys),
+        vector: site_vector(schema, steps, site),
+        behind: behind(schema, steps, txn, begin),
+        holder: holder(steps, site, keys),
+    };
+    begin_refusal(reads, site, begin)
 }
 
 fn commit_why(schema: &Schema, steps: &[Step], entry: &Entry) -> Option<Why>
@@ -175,21 +174,19 @@ fn commit_why(schema: &Schema, steps: &[Step], entry: &Entry) -> Option<Why>
         at: &entry.begin,
     };
     let ops = entry.ops.as_slice();
-    let fits = body_fits(
-        ops,
-        entry.reads.as_slice(),
-        entry.writes.as_slice(),
-        &mut reading,
-    );
-    commit_refusal(
-        run_site(schema, steps, entry.txn),
-        entry_count(steps, entry.origin) + 1,
-        begin_vector(steps, entry.txn),
-        undeclared_in(declared(steps, entry.txn), ops),
-        fits,
-        has_writes(ops),
-        entry,
-    )
+    let reads = CommitReads {
+        runs: run_site(schema, steps, entry.txn),
+        due: entry_count(steps, entry.origin) + 1,
+        begin: begin_vector(steps, entry.txn),
+        undeclared: undeclared_in(declared(steps, entry.txn), ops),
+        fits: body_fits(
+            ops,
+            entry.reads.as_slice(),
+            entry.writes.as_slice(),
+            &mut reading,
+        ),
+    };
+    commit_refusal(reads, has_writes(ops), entry)
 }
 
 fn end_why(

@@ -92,20 +92,22 @@ pub(crate) fn reply_refusal(due: u64, allowed: bool, number: u32) -> Option<Why>
     if allowed { None } else { Some(Why::WrongSaid) }
 }
 
+/// What a Begin reads of the steps before: the fields are those of the row.
+#[derive(Drop)]
+pub(crate) struct BeginReads {
+    pub(crate) to: Option<SiteNo>,
+    pub(crate) down: bool,
+    pub(crate) elsewhere: Option<Part>,
+    pub(crate) vector: Vector,
+    pub(crate) behind: Option<SiteNo>,
+    pub(crate) holder: Option<(TxnId, Key)>,
+}
+
 /// Why an attempt may not begin.
-pub(crate) fn begin_refusal(
-    to: Option<SiteNo>,
-    down: bool,
-    elsewhere: Option<Part>,
-    vector: Vector,
-    behind: Option<SiteNo>,
-    holder: Option<(TxnId, Key)>,
-    site: SiteNo,
-    begin: &Vector,
-) -> Option<Why>
-    ensures { result ≡ first (begin_row to down elsewhere vector behind holder site begin.now) }
+pub(crate) fn begin_refusal(reads: BeginReads, site: SiteNo, begin: &Vector) -> Option<Why>
+    ensures { result ≡ first (begin_row (record { to = reads.to; down = reads.down; elsewhere = reads.elsewhere; vector = reads.vector; behind = reads.behind; holder = reads.holder }) site begin.now) }
 {
-    match to {
+    match reads.to {
         None => return Some(Why::NotRouted),
         Some(due) => {
             if due != site {
@@ -113,57 +115,60 @@ pub(crate) fn begin_refusal(
             }
         }
     }
-    if down {
+    if reads.down {
         return Some(Why::Down { site });
     }
-    if let Some(part) = elsewhere {
+    if let Some(part) = reads.elsewhere {
         return Some(Why::Elsewhere { part });
     }
-    if !same_vector(begin, &vector) {
-        return Some(Why::WrongVector { due: vector });
+    if !same_vector(begin, &reads.vector) {
+        return Some(Why::WrongVector { due: reads.vector });
     }
-    if let Some(component) = behind {
+    if let Some(component) = reads.behind {
         return Some(Why::Behind { component });
     }
-    match holder {
+    match reads.holder {
         Some((by, key)) => Some(Why::Held { by, key }),
         None => None,
     }
 }
 
+/// What a Commit reads of the steps before: the fields are those of the row, but that whether the entry
+/// fits what its ops did stands in for that, and an attempt that runs has begun.
+#[derive(Drop)]
+pub(crate) struct CommitReads {
+    pub(crate) runs: Option<SiteNo>,
+    pub(crate) due: u64,
+    pub(crate) begin: Option<Vector>,
+    pub(crate) undeclared: Option<Key>,
+    pub(crate) fits: bool,
+}
+
 /// Why a running attempt may not commit.
-pub(crate) fn commit_refusal(
-    runs: Option<SiteNo>,
-    due: u64,
-    began: Option<Vector>,
-    undeclared: Option<Key>,
-    fits: bool,
-    writes: bool,
-    entry: &Entry,
-) -> Option<Why>
-    requires begun { is_some runs ≡ true → is_some began ≡ true }
+pub(crate) fn commit_refusal(reads: CommitReads, writes: bool, entry: &Entry) -> Option<Why>
+    requires begun { is_some reads.runs ≡ true → is_some reads.begin ≡ true }
     requires writes { writes ≡ has_writes entry.now.ops }
-    ensures { (ran : Ran) → fits ≡ (same_pairs entry.now.reads ran.reads && same_pairs entry.now.writes ran.writes) → result ≡ first (commit_row runs due (unwrap_or began []) undeclared ran entry.now) }
+    ensures { (ran : Ran) → reads.fits ≡ (same_pairs entry.now.reads ran.reads && same_pairs entry.now.writes ran.writes) → result ≡ first (commit_row (record { runs = reads.runs; due = reads.due; begin = unwrap_or reads.begin []; undeclared = reads.undeclared; ran = ran }) entry.now) }
 {
-    let Some(at) = runs else {
+    let Some(at) = reads.runs else {
         return Some(Why::NotRunning);
     };
     if at != entry.origin {
         return Some(Why::WrongSite { due: at });
     }
-    if entry.seq != due {
-        return Some(Why::NotDue { due });
+    if entry.seq != reads.due {
+        return Some(Why::NotDue { due: reads.due });
     }
-    let Some(began) = began else {
+    let Some(begin) = reads.begin else {
         unreachable!();
     };
-    if !same_vector(&entry.begin, &began) {
-        return Some(Why::WrongVector { due: began });
+    if !same_vector(&entry.begin, &begin) {
+        return Some(Why::WrongVector { due: begin });
     }
-    if let Some(key) = undeclared {
+    if let Some(key) = reads.undeclared {
         return Some(Why::Undeclared { key });
     }
-    if !fits {
+    if !reads.fits {
         return Some(Why::WrongBody);
     }
     if writes { None } else { Some(Why::NoWrites) }

@@ -47,13 +47,13 @@ at_due (Some i) site h k = ap (λ (x : ℕ). Some x) (eqb-true i site (holds_tru
 pub runs_due : (layout : Layout) (past : List Step) (t : TxnId) (site : ℕ) → is_some (run_site layout past t) ≡ true → at_site (run_site layout past t) site ≡ None → runs site t past ≡ true
 runs_due layout past t site h k = found_holds (λ i. runs i t past) (sites_to layout.sites) site (at_due (run_site layout past t) site h k)
 
--- the clauses on a Restart's vector, where the past is counted so
-abbrev pub counted_clauses : Layout → List Step → ℕ → List ℕ → List Step → List Clause
-counted_clauses layout past site vector counted =
-    holds (at vector site == entry_count site counted) (why.NotDue (entry_count site counted))
-    ∷ none_of (first_above layout.sites (floor layout.sites counted site) vector) why.Behind
-    ∷ none_of (first_above layout.sites vector (raised (site_vector layout.sites past site) site (entry_count site counted))) why.Ahead
-    ∷ none_of {X = ℕ × ℕ} (option_map (λ e. (e.origin, e.seq)) (unclosed layout.sites vector (reverse (entries counted)))) (λ entry. why.NotClosed entry.0 entry.1)
+-- the clauses on a Restart's vector, where the second past has the kept step too
+abbrev pub vector_clauses : Layout → List Step → ℕ → List ℕ → List Step → List Clause
+vector_clauses layout past site vector kept =
+    holds (at vector site == entry_count site kept) (why.NotDue (entry_count site kept))
+    ∷ none_of (first_above layout.sites (floor layout.sites kept site) vector) why.Behind
+    ∷ none_of (first_above layout.sites vector (raised (site_vector layout.sites past site) site (entry_count site kept))) why.Ahead
+    ∷ none_of {X = ℕ × ℕ} (option_map (λ e. (e.origin, e.seq)) (unclosed layout.sites vector (reverse (entries kept)))) (λ entry. why.NotClosed entry.0 entry.1)
     ∷ []
 
 -- where each clause holds, none gives a reason

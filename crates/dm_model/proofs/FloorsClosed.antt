@@ -118,9 +118,9 @@ module _ (layout : Layout) (past : List Step) (n : SoundPast layout past) (seat 
       subst (λ (u : List ℕ). ClosedBy (entries past) (at u)) (sym (v ∙ ap (λ (o : Option (List ℕ)). unwrap_or o []) r.1)) (n.begins e.txn r.0 r.1)
 
   vector_closed : (site : ℕ) (v : List ℕ) → v ≡ site_vector layout.sites past site → ClosedBy (entries past) (at v)
-  vector_closed site v e = subst (λ (u : List ℕ). ClosedBy (entries past) (at u)) (sym e) (closed_vector layout.sites (entries past) (reached site past) n.sized (n.closed site))
+  vector_closed site v e = subst (λ (u : List ℕ). ClosedBy (entries past) (at u)) (sym e) (closed_vector layout.sites (entries past) (λ j. reached site j past) n.sized (n.closed site))
 
-  firm_kept : (site : ℕ) (vector : List ℕ) (o : Option Pending) → InDoubt layout.sites (entries past) (reached site past) site o → DoubtClosed (entries past) o → Numbered (filter_map entry_of (option_to_list (option_map (step_of site) o) ++ acts past))
+  firm_kept : (site : ℕ) (vector : List ℕ) (o : Option Pending) → InDoubt layout.sites (entries past) (λ j. reached site j past) site o → DoubtClosed (entries past) o → Numbered (filter_map entry_of (option_to_list (option_map (step_of site) o) ++ acts past))
       → Firm layout.sites (filter_map entry_of (option_to_list (option_map (step_of site) o) ++ acts past)) (option_to_list (option_map (step_of site) o) ++ acts past)
       (λ p. after_acts p (option_to_list (option_map (step_of site) o)) (placing layout past p)) (λ i. is_down i (Restart site vector Kept ∷ past)) (λ i. pending_at i past)
   firm_kept site vector None l f q = record { acts = s.acts; between = s.between; held = λ i h. s.held i (rise site i _ h) }
@@ -273,7 +273,7 @@ floor_closed layout past h i =
     let f = firm_past layout past h in
     let around = around_all layout (entries past) n.numbered (grounded_past layout past h) n.sized in
     record {
-      counted = λ j. le_trans (m.floored i j) ((n.closed i).counted j);
+      within = λ j. le_trans (m.floored i j) ((n.closed i).within j);
       begun = by_each (entries past) (rule_all (entries past) (entries past) (λ w c. c.begun)) (own_inside layout.sites i (acts past) n.sized) around (seq_all (entries past) n.numbered)
           (λ d one ne r. other_inside (entries past) layout.sites i d one ne r (acts past) f.acts around);
     }

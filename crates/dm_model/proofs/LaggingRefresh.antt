@@ -33,14 +33,14 @@ abbrev pub Grounded : Layout → List Entry → Type 0
 Grounded layout [] = Unit {0}
 Grounded layout (e ∷ es) = (is_site layout e.origin ≡ true) × ((j : ℕ) → at e.begin j ≤ count_at j es) × Grounded layout es
 
-kept_grounded : (layout : Layout) (past : List Step) (site : ℕ) (o : Option Pending) → SoundPast layout past → is_site layout site ≡ true → InDoubt layout.sites (entries past) (reached site past) site o → Grounded layout (entries past)
+kept_grounded : (layout : Layout) (past : List Step) (site : ℕ) (o : Option Pending) → SoundPast layout past → is_site layout site ≡ true → InDoubt layout.sites (entries past) (λ j. reached site j past) site o → Grounded layout (entries past)
     → Grounded layout (filter_map entry_of (option_to_list (option_map (step_of site) o) ++ acts past))
 kept_grounded layout past site None n i d g = g
 kept_grounded layout past site (Some (pending.Release part epoch to v)) n i d g = g
 kept_grounded layout past site (Some (pending.Grant part epoch v)) n i d g = g
 kept_grounded layout past site (Some (pending.Commit e)) n i d g = (
   ap (λ (x : ℕ). is_site layout x) d.0 ∙ i,
-  (λ j. (let a = d.2.below j in let b = (n.closed site).counted j in omega arith)),
+  (λ j. (let a = d.2.below j in let b = (n.closed site).within j in omega arith)),
   g,
 )
 
@@ -49,7 +49,7 @@ grounded_step layout past (Commit e) n h g =
     let c = all_hold (holds _ why.Shape ∷ clauses layout past (Commit e)) h in
     let f = commit_says layout past n e c.1 in (
       (and_parts (is_site layout e.origin) _ (and_parts _ _ (holds_true _ _ c.0)).1).0,
-      (λ j. (let a = f.2.below j in let b = (n.closed e.origin).counted j in omega arith)),
+      (λ j. (let a = f.2.below j in let b = (n.closed e.origin).within j in omega arith)),
       g,
     )
 grounded_step layout past (Restart site vector Kept) n h g =
@@ -108,18 +108,18 @@ lagging layout (e ∷ es) f n g j h = by (λ k l. lagging layout es f n.2 g.2 k 
         }
 
 -- a site that is up and lacks an entry may take one
-pub may_refresh : (layout : Layout) (past : List Step) → LegalPast layout past → (i : ℕ) → is_site layout i ≡ true → is_down i past ≡ false → (j : ℕ) → reached i past j < entry_count j past
+pub may_refresh : (layout : Layout) (past : List Step) → LegalPast layout past → (i : ℕ) → is_site layout i ≡ true → is_down i past ≡ false → (j : ℕ) → reached i j past < entry_count j past
     → (o : ℕ) × Allowed layout past (Refresh i o)
 may_refresh layout past h i is up j l =
     let n = sound_past layout past h in
-    let x = lagging layout (entries past) (reached i past) n.numbered (grounded_past layout past h) j l in
+    let x = lagging layout (entries past) (λ j. reached i j past) n.numbered (grounded_past layout past h) j l in
     let o : ℕ = x.entry.origin in
     let range = and_parts (nat_le 1 o) (nat_le o layout.sites) x.site in
-    let here : at (site_vector layout.sites past i) o ≡ reached i past o = at_by layout.sites (reached i past) o (leb-true 1 o range.0) (leb-true o layout.sites range.1) in
-    let ne : i ≢ o = λ p. absurd (let a = n.own i in let b = x.lacks in let c = ap (λ (k : ℕ). reached i past k) p in let d = ap (λ (k : ℕ). count_at k (entries past)) p in omega arith) in
+    let here : at (site_vector layout.sites past i) o ≡ reached i o past = at_by layout.sites (λ j. reached i j past) o (leb-true 1 o range.0) (leb-true o layout.sites range.1) in
+    let ne : i ≢ o = λ p. absurd (let a = n.own i in let b = x.lacks in let c = ap (λ (k : ℕ). reached i k past) p in let d = ap (λ (k : ℕ). count_at k (entries past)) p in omega arith) in
     let next : next_entry layout past i o ≡ Some x.entry = ap (λ (k : ℕ). entry_at o (k + 1) past) here ∙ x.found in
     let none : missing_for layout.sites (site_vector layout.sites past i) x.entry ≡ None = find_nothing (λ k. not (k == o) && nat_lt (at (site_vector layout.sites past i) k) (at x.entry.begin k)) 1 layout.sites
-    (λ k a b. and_right (not (k == o)) _ (le-ltb (at (site_vector layout.sites past i) k) (at x.entry.begin k) (let e = at_by layout.sites (reached i past) k a (omega arith) in let f = x.below k in omega arith))) in (
+    (λ k a b. and_right (not (k == o)) _ (le-ltb (at (site_vector layout.sites past i) k) (at x.entry.begin k) (let e = at_by layout.sites (λ j. reached i j past) k a (omega arith) in let f = x.below k in omega arith))) in (
       o,
       first_none (holds (is_shaped layout (Refresh i o)) why.Shape ∷ clauses layout past (Refresh i o)) (
         holds_none _ _ (and_from _ _ is x.site),

@@ -20,7 +20,7 @@ use Rattle.dm_event.specs.declared.step.Step.TheVariants.{Route, Ask, Settle, Be
 use Rattle.dm_event.specs.declared.step.TxnId.{TxnId}
 use Rattle.dm_event.specs.declared.step.Want.{Want}
 use Rattle.dm_event.specs.declared.why.Why.TheVariants as why
-use Rattle.dm_model.proofs.ClausesHold.{all_hold, holds_true, map_none, runs_due, counted_clauses}
+use Rattle.dm_model.proofs.ClausesHold.{all_hold, holds_true, map_none, runs_due, vector_clauses}
 use Rattle.dm_model.proofs.KeysAndBodies.{each_among, among_map, each_unmap, no_common, same_keys, body_writes, all_declared}
 use Rattle.dm_model.proofs.ListFacts.{cons_true, cons_false, each_map, find_none}
 use Rattle.dm_model.proofs.MastershipKept.{WritersWithin, Held}
@@ -35,7 +35,7 @@ use Rattle.dm_model.proofs.SameValues.{txn_same, txn_own}
 use Rattle.dm_model.proofs.StepTests.{went_on, ran, taken, passed}
 use Rattle.dm_model.proofs.VectorFacts.{join_keeps, join_has, join_least, long_raised, at_raised_own, at_by_within, at_most, numbers_same, at_by_below, long_by, at_raised_other}
 use Rattle.dm_model.specs.Acts.{entries, acts}
-use Rattle.dm_model.specs.Allowed.{Allowed, clauses, commit_clauses, release_clauses, grant_clauses, past_with}
+use Rattle.dm_model.specs.Allowed.{Allowed, clauses, commit_clauses, release_clauses, grant_clauses, with_kept}
 use Rattle.dm_model.specs.Attempts.{Routing, state, wanted_keys, declared}
 use Rattle.dm_model.specs.Bodies.{ran_at}
 use Rattle.dm_model.specs.Choices.{parts_in_order}
@@ -61,7 +61,7 @@ floor_at layout past i j = at (floor layout.sites past i) j
 -- mastership is sound in the past
 abbrev pub MasteredPast : Layout → List Step → Type 0
 MasteredPast layout past =
-    mastered.Mastered (part_of layout) (entries past) (λ i. reached i past) (floor_at layout past) (λ i t. runs i t past) (λ t. begin_vector t past) (λ t. declared t past)
+    mastered.Mastered (part_of layout) (entries past) (λ i j. reached i j past) (floor_at layout past) (λ i t. runs i t past) (λ t. begin_vector t past) (λ t. declared t past)
     (placing layout past) (λ i. is_down i past) (λ i. pending_at i past)
 
 -- what a placing says of masters
@@ -162,36 +162,36 @@ module _ (layout : Layout) (past : List Step) (n : SoundPast layout past) (seat 
   grant_takes site part epoch v j l = (let a = grant_with site part epoch v j in let b = join_has layout.sites v (floor_vectors site past) l j in omega arith)
 
   -- what the site has as its own entry comes
-  reached_own : (e : Entry) (j : ℕ) → reached e.origin past j ≤ reached e.origin (Commit e ∷ past) j
+  reached_own : (e : Entry) (j : ℕ) → reached e.origin j past ≤ reached e.origin j (Commit e ∷ past)
   reached_own e j = by_test (e.origin == j)
     where
       by_test : (b : Bool) → cond b (count_at e.origin (entries past)) (refreshed e.origin j past) ≤ cond b (count_at e.origin (e ∷ entries past)) (refreshed e.origin j past)
       by_test true = (let c = count_own e (entries past) e.origin refl in omega arith)
       by_test false = omega arith
 
-  reached_self : (e : Entry) → reached e.origin (Commit e ∷ past) e.origin ≡ suc (count_at e.origin (entries past))
+  reached_self : (e : Entry) → reached e.origin e.origin (Commit e ∷ past) ≡ suc (count_at e.origin (entries past))
   reached_self e = cond-true (e.origin == e.origin) _ _ (eq-eqb e.origin e.origin refl) ∙ count_own e (entries past) e.origin refl
 
-  reached_grows : (e : Entry) (i j : ℕ) → reached i past j ≤ reached i (Commit e ∷ past) j
+  reached_grows : (e : Entry) (i j : ℕ) → reached i j past ≤ reached i j (Commit e ∷ past)
   reached_grows e i j = elim (cases_eq i e.origin) [
-    | inl p ↦ subst (λ (x : ℕ). reached x past j ≤ reached x (Commit e ∷ past) j) (sym p) (reached_own e j)
-    | inr m ↦ (let c : reached i (Commit e ∷ past) j ≡ reached i past j = ap (λ (x : ℕ). cond (i == j) x (refreshed i j past)) (count_other e (entries past) i (λ q. m (sym q))) in omega arith)
+    | inl p ↦ subst (λ (x : ℕ). reached x j past ≤ reached x j (Commit e ∷ past)) (sym p) (reached_own e j)
+    | inr m ↦ (let c : reached i j (Commit e ∷ past) ≡ reached i j past = ap (λ (x : ℕ). cond (i == j) x (refreshed i j past)) (count_other e (entries past) i (λ q. m (sym q))) in omega arith)
   ]
 
-  commit_below : (e : Entry) (j : ℕ) → 1 ≤ e.origin → e.origin ≤ length e.begin → e.seq ≡ suc (count_at e.origin (entries past)) → Within layout.sites (reached e.origin past) e.begin
-      → at (commit_vector e) j ≤ reached e.origin (Commit e ∷ past) j
+  commit_below : (e : Entry) (j : ℕ) → 1 ≤ e.origin → e.origin ≤ length e.begin → e.seq ≡ suc (count_at e.origin (entries past)) → Within layout.sites (λ j. reached e.origin j past) e.begin
+      → at (commit_vector e) j ≤ reached e.origin j (Commit e ∷ past)
   commit_below e j one in' num w = elim (cases_eq j e.origin) [
-    | inl p ↦ subst (λ (x : ℕ). at (commit_vector e) x ≤ reached e.origin (Commit e ∷ past) x) (sym p) (let a = at_raised_own e.begin e.origin e.seq one in' in let b = reached_self e in omega arith)
+    | inl p ↦ subst (λ (x : ℕ). at (commit_vector e) x ≤ reached e.origin x (Commit e ∷ past)) (sym p) (let a = at_raised_own e.begin e.origin e.seq one in' in let b = reached_self e in omega arith)
     | inr m ↦ (let a = at_raised_other e.begin e.origin e.seq j one m in let b = w.below j in let c = reached_own e j in omega arith)
   ]
 
   -- the floor stays below what the site has
-  commit_floored : (e : Entry) → 1 ≤ e.origin → e.origin ≤ length e.begin → e.seq ≡ suc (count_at e.origin (entries past)) → Within layout.sites (reached e.origin past) e.begin
-      → (i j : ℕ) → floor_at layout (Commit e ∷ past) i j ≤ reached i (Commit e ∷ past) j
+  commit_floored : (e : Entry) → 1 ≤ e.origin → e.origin ≤ length e.begin → e.seq ≡ suc (count_at e.origin (entries past)) → Within layout.sites (λ j. reached e.origin j past) e.begin
+      → (i j : ℕ) → floor_at layout (Commit e ∷ past) i j ≤ reached i j (Commit e ∷ past)
   commit_floored e one in' num w i j = elim (cases_eq i e.origin) [
-    | inl p ↦ subst (λ (x : ℕ). floor_at layout (Commit e ∷ past) x j ≤ reached x (Commit e ∷ past) j) (sym p) (
+    | inl p ↦ subst (λ (x : ℕ). floor_at layout (Commit e ∷ past) x j ≤ reached x j (Commit e ∷ past)) (sym p) (
         let a = floor_with e j in
-        let b = join_least layout.sites (commit_vector e) (floor_vectors e.origin past) (reached e.origin (Commit e ∷ past) j) j (commit_below e j one in' num w) (let x = s.floored e.origin j in let y = reached_own e j in omega arith) in
+        let b = join_least layout.sites (commit_vector e) (floor_vectors e.origin past) (reached e.origin j (Commit e ∷ past)) j (commit_below e j one in' num w) (let x = s.floored e.origin j in let y = reached_own e j in omega arith) in
         omega arith)
     | inr m ↦ (let a = floor_same e i j m in let b = s.floored i j in let c = reached_grows e i j in omega arith)
   ]
@@ -206,7 +206,7 @@ module _ (layout : Layout) (past : List Step) (n : SoundPast layout past) (seat 
       let one = leb-true 1 e.origin range.0 in
       let top = leb-true e.origin layout.sites range.1 in
       let long = f.2.long in
-      mastered.entered _ _ _ _ _ _ _ _ _ _ s e (λ i. reached i (Commit e ∷ past)) (floor_at layout (Commit e ∷ past)) (λ i t. runs i t (Commit e ∷ past)) (λ i. is_down i past) (λ i. pending_at i past)
+      mastered.entered _ _ _ _ _ _ _ _ _ _ s e (λ i j. reached i j (Commit e ∷ past)) (floor_at layout (Commit e ∷ past)) (λ i t. runs i t (Commit e ∷ past)) (λ i. is_down i past) (λ i. pending_at i past)
       (commit_holds e c.1)
       (commit_floored e one (omega arith) f.1 f.2) (floor_grows e) (λ j. floor_takes e j long) (λ i j m. floor_same e i j m)
       (λ k u r. (went_on (same_txn u e.txn) _ r).1)
@@ -216,7 +216,7 @@ module _ (layout : Layout) (past : List Step) (n : SoundPast layout past) (seat 
 
   -- the vector of a site is at least its floor
   pub floor_below_vector : (i j : ℕ) → floor_at layout past i j ≤ at (site_vector layout.sites past i) j
-  floor_below_vector i j = at_by_within layout.sites _ (reached i past) (λ k. s.floored i k) j
+  floor_below_vector i j = at_by_within layout.sites _ (λ j. reached i j past) (λ k. s.floored i k) j
 
   pub mastered_begin : (site : ℕ) (txn : TxnId) (begin : List ℕ) → Allowed layout past (Begin site txn begin) → MasteredPast layout (Begin site txn begin ∷ past)
   mastered_begin site txn begin h =
@@ -259,7 +259,7 @@ module _ (layout : Layout) (past : List Step) (n : SoundPast layout past) (seat 
       )
 
   pub grant_says : (site part epoch : ℕ) (vector : List ℕ) → length vector ≡ layout.sites → Each (λ c. c ≡ None) (grant_clauses layout past site part epoch vector)
-      → (a : ℕ) × (b : ℕ) × (placing layout past part ≡ Between a b site vector) × ((j : ℕ) → at vector j ≤ reached site past j) × (is_down site past ≡ false) × (epoch ≡ suc b)
+      → (a : ℕ) × (b : ℕ) × (placing layout past part ≡ Between a b site vector) × ((j : ℕ) → at vector j ≤ reached site j past) × (is_down site past ≡ false) × (epoch ≡ suc b)
   grant_says site part epoch vector long h =
       let x = between_says (placing layout past part) _ h in
       let c = x.5 in
@@ -268,7 +268,7 @@ module _ (layout : Layout) (past : List Step) (n : SoundPast layout past) (seat 
         x.0,
         x.1,
         x.4 ∙ (λ i. Between x.0 x.1 (a i) (sym v i)),
-        (λ j. (let y = at_most layout.sites vector (site_vector layout.sites past site) long (map_none _ _ c.1.1.1.1.0) j in let z = at_by_below layout.sites (reached site past) j in omega arith)),
+        (λ j. (let y = at_most layout.sites vector (site_vector layout.sites past site) long (map_none _ _ c.1.1.1.1.0) j in let z = at_by_below layout.sites (λ j. reached site j past) j in omega arith)),
         not-true (is_down site past) (holds_true _ _ c.1.1.1.0),
         (let e = eqb-true epoch (x.1 + 1) (holds_true _ _ c.1.0) in omega arith),
       )
@@ -280,7 +280,7 @@ module _ (layout : Layout) (past : List Step) (n : SoundPast layout past) (seat 
   mastered_release site part epoch to vector h =
       let c = all_hold (holds _ why.Shape ∷ clauses layout past (Release site part epoch to vector)) h in
       let f = release_says site part epoch to vector c.1 in
-      mastered.released _ _ _ _ _ _ _ _ _ _ s site part epoch to epoch to vector (λ i. reached i past) (λ i t. runs i t past) (placing layout (Release site part epoch to vector ∷ past)) (λ i. is_down i past) (λ i. pending_at i past)
+      mastered.released _ _ _ _ _ _ _ _ _ _ s site part epoch to epoch to vector (λ i j. reached i j past) (λ i t. runs i t past) (placing layout (Release site part epoch to vector ∷ past)) (λ i. is_down i past) (λ i. pending_at i past)
       f.0 (floor_below site vector f.1) (cond-true (part == part) _ _ (eq-eqb part part refl)) (λ q m. cond-false (part == q) _ _ (ne_eqb part q (λ p. m (sym p))))
       s.floored (λ k u r. r) f.3
       (λ k d. ((λ p. false≢true (sym f.2 ∙ ap (λ (x : ℕ). is_down x past) (sym p) ∙ d)), d, refl))
@@ -302,9 +302,9 @@ module _ (layout : Layout) (past : List Step) (n : SoundPast layout past) (seat 
       let shape = and_parts (is_site layout site) _ (holds_true _ _ c.0) in
       let long = eqb-true (length vector) layout.sites (and_parts _ (length vector == layout.sites) shape.1).1 in
       let f = grant_says site part epoch vector long c.1 in
-      mastered.granted _ _ _ _ _ _ _ _ _ _ s site part epoch f.0 f.1 vector (λ i. reached i past) (floor_at layout (Grant site part epoch vector ∷ past)) (λ i t. runs i t past) (placing layout (Grant site part epoch vector ∷ past)) (λ i. is_down i past) (λ i. pending_at i past)
+      mastered.granted _ _ _ _ _ _ _ _ _ _ s site part epoch f.0 f.1 vector (λ i j. reached i j past) (floor_at layout (Grant site part epoch vector ∷ past)) (λ i t. runs i t past) (placing layout (Grant site part epoch vector ∷ past)) (λ i. is_down i past) (λ i. pending_at i past)
       f.2 (cond-true (part == part) _ _ (eq-eqb part part refl)) (λ q m. cond-false (part == q) _ _ (ne_eqb part q (λ p. m (sym p))))
-      (grant_floored site part epoch vector (λ i. reached i past) (λ i j m. s.floored i j) (λ j. s.floored site j) f.3)
+      (grant_floored site part epoch vector (λ i j. reached i j past) (λ i j m. s.floored i j) (λ j. s.floored site j) f.3)
       (grant_grows site part epoch vector) (λ j. grant_takes site part epoch vector j long) (λ k j m. grant_same site part epoch vector k j m)
       (λ k u r. r)
       (λ k d. ((λ p. false≢true (sym f.4 ∙ ap (λ (x : ℕ). is_down x past) (sym p) ∙ d)), d, refl))
@@ -341,7 +341,7 @@ module _ (layout : Layout) (past : List Step) (n : SoundPast layout past) (seat 
   ]
 
   restart_other : (site : ℕ) (vector : List ℕ) (found : Found) (es : List Entry) (k j : ℕ) → k ≢ site → count_at k (entries past) ≤ count_at k es
-      → reached k past j ≤ cond (k == j) (count_at k es) (refreshed k j (Restart site vector found ∷ past))
+      → reached k j past ≤ cond (k == j) (count_at k es) (refreshed k j (Restart site vector found ∷ past))
   restart_other site vector found es k j m le = rw (refreshed_other layout past n site vector found k j m) (by_test (k == j))
     where
       by_test : (b : Bool) → cond b (count_at k (entries past)) (refreshed k j past) ≤ cond b (count_at k es) (refreshed k j past)
@@ -355,7 +355,7 @@ module _ (layout : Layout) (past : List Step) (n : SoundPast layout past) (seat 
   restart_floored site vector found es floor' m le same more k j = elim (cases_eq k site) [
     | inl p ↦ subst (λ (x : ℕ). floor' x j ≤ cond (x == j) (count_at x es) (refreshed x j (Restart site vector found ∷ past))) (sym p) (le_trans (le j) (restart_set site vector found es j m))
     | inr q ↦ (let a = same k j q in let b = s.floored k j in let c = restart_other site vector found es k j q (more k) in
-        let d : floor' k j ≤ reached k past j = omega arith in le_trans d c)
+        let d : floor' k j ≤ reached k j past = omega arith in le_trans d c)
   ]
 
   stops : (site : ℕ) (vector : List ℕ) (found : Found) (k : ℕ) (u : TxnId) → runs k u (Restart site vector found ∷ past) ≡ true → (site ≢ k) × (runs k u past ≡ true)
@@ -374,9 +374,9 @@ module _ (layout : Layout) (past : List Step) (n : SoundPast layout past) (seat 
   abbrev pub kept_place : ℕ → Option Pending → ℕ → Placing
   kept_place site o q = after_acts q (option_to_list (option_map (step_of site) o)) (placing layout past q)
 
-  mastered_kept : (site : ℕ) (vector : List ℕ) (found : Found) (o : Option Pending) → sound.InDoubt layout.sites (entries past) (reached site past) site o
+  mastered_kept : (site : ℕ) (vector : List ℕ) (found : Found) (o : Option Pending) → sound.InDoubt layout.sites (entries past) (λ j. reached site j past) site o
       → Held (part_of layout) (entries past) (floor_at layout past site) (placing layout past) site o
-      → Each (λ c. c ≡ None) (counted_clauses layout past site vector (kept_past layout past n site o))
+      → Each (λ c. c ≡ None) (vector_clauses layout past site vector (kept_past layout past n site o))
       → mastered.Mastered (part_of layout) (kept_entries layout past n site o) (kept_got site vector found o) (kept_floor site o) (λ i t. runs i t (Restart site vector found ∷ past)) (λ t. begin_vector t past) (λ t. declared t past)
       (kept_place site o) (λ i. is_down i (Restart site vector found ∷ past)) (λ i. pending_at i past)
   mastered_kept site vector found None d d' c =
@@ -422,14 +422,14 @@ module _ (layout : Layout) (past : List Step) (n : SoundPast layout past) (seat 
       let c = all_hold (holds _ why.Shape ∷ clauses layout past (Restart site vector found)) h in
       by_found found (holds_true _ _ c.1.0) c.1.1
     where
-      by_found : (found : Found) → found_fits found (is_down site past) ≡ true → Each (λ c. c ≡ None) (counted_clauses layout past site vector (past_with site found past)) → MasteredPast layout (Restart site vector found ∷ past)
+      by_found : (found : Found) → found_fits found (is_down site past) ≡ true → Each (λ c. c ≡ None) (vector_clauses layout past site vector (with_kept site found past)) → MasteredPast layout (Restart site vector found ∷ past)
       by_found Clean f c = mastered_kept site vector Clean None tt tt c
       by_found Lost f c = mastered_kept site vector Lost None tt tt c
       by_found Kept f c = mastered_kept site vector Kept (pending_at site past) (n.in_doubt site f) (s.held site f) c
 
 pub mastered_step : (layout : Layout) (past : List Step) (s : Step) → SoundPast layout past → Seated past → MasteredPast layout past → Allowed layout past s → MasteredPast layout (s ∷ past)
 mastered_step layout past (Route txn want min site choice) n seat s h =
-    mastered.eased _ _ _ _ _ _ _ _ _ _ s (λ i. reached i past) (λ i t. runs i t past) (λ t. declared t (Route txn want min site choice ∷ past)) (λ i. is_down i past)
+    mastered.eased _ _ _ _ _ _ _ _ _ _ s (λ i j. reached i j past) (λ i t. runs i t past) (λ t. declared t (Route txn want min site choice ∷ past)) (λ i. is_down i past)
     s.floored (λ i t r. (r, route_keeps layout past n seat s txn want min site choice h i t r)) (λ i d. d)
 mastered_step layout past (Ask part epoch to txn) n seat s h =
     mastered.replaced _ _ _ _ _ _ _ _ _ _ s (placing layout (Ask part epoch to txn ∷ past))
@@ -446,13 +446,13 @@ mastered_step layout past (Settle part epoch) n seat s h =
 mastered_step layout past (Begin site txn begin) n seat s h = mastered_begin layout past n seat s site txn begin h
 mastered_step layout past (Commit e) n seat s h = mastered_commit layout past n seat s e h
 mastered_step layout past (End site txn ops reads) n seat s h =
-    mastered.eased _ _ _ _ _ _ _ _ _ _ s (λ i. reached i past) (λ i t. runs i t (End site txn ops reads ∷ past)) (λ t. declared t past) (λ i. is_down i past)
+    mastered.eased _ _ _ _ _ _ _ _ _ _ s (λ i j. reached i j past) (λ i t. runs i t (End site txn ops reads ∷ past)) (λ t. declared t past) (λ i. is_down i past)
     s.floored (λ i t r. ((went_on (same_txn t txn) _ r).1, refl)) (λ i d. d)
 mastered_step layout past (Fail site txn cause) n seat s h =
-    mastered.eased _ _ _ _ _ _ _ _ _ _ s (λ i. reached i past) (λ i t. runs i t (Fail site txn cause ∷ past)) (λ t. declared t past) (λ i. is_down i past)
+    mastered.eased _ _ _ _ _ _ _ _ _ _ s (λ i j. reached i j past) (λ i t. runs i t (Fail site txn cause ∷ past)) (λ t. declared t past) (λ i. is_down i past)
     s.floored (λ i t r. ((went_on (same_txn t txn) _ r).1, refl)) (λ i d. d)
 mastered_step layout past (Refresh site origin) n seat s h =
-    mastered.eased _ _ _ _ _ _ _ _ _ _ s (λ i. reached i (Refresh site origin ∷ past)) (λ i t. runs i t past) (λ t. declared t past) (λ i. is_down i past)
+    mastered.eased _ _ _ _ _ _ _ _ _ _ s (λ i j. reached i j (Refresh site origin ∷ past)) (λ i t. runs i t past) (λ t. declared t past) (λ i. is_down i past)
     (λ i j. (let a = s.floored i j in let b = refresh_grows layout past n seat s (i == j) ((site == i) && (origin == j)) (entry_count i past) _ _ in le_trans a b)) (λ i t r. (r, refl)) (λ i d. d)
 mastered_step layout past (Release site part epoch to vector) n seat s h = mastered_release layout past n seat s site part epoch to vector h
 mastered_step layout past (Grant site part epoch vector) n seat s h = mastered_grant layout past n seat s site part epoch vector h

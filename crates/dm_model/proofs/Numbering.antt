@@ -21,7 +21,7 @@ Numbered (e ∷ es) = (e.seq ≡ suc (count_at e.origin es)) × (at e.begin e.or
 
 -- the numbers are at most the counts, and each entry inside them began at numbers at most them
 pub record ClosedBy (es : List Entry) (f : ℕ → ℕ) : Type 0 where
-  pub counted : (j : ℕ) → f j ≤ count_at j es
+  pub within : (j : ℕ) → f j ≤ count_at j es
   pub begun : Each (λ e. e.seq ≤ f e.origin → (j : ℕ) → at e.begin j ≤ f j) es
 
 -- an entry that comes
@@ -45,15 +45,15 @@ within_count (e ∷ es) h = (
 -- what is closed stays closed as an entry comes
 pub closed_more : (e : Entry) (es : List Entry) (f : ℕ → ℕ) → Numbered (e ∷ es) → ClosedBy es f → ClosedBy (e ∷ es) f
 closed_more e es f h c = record {
-  counted = λ j. (let a = count_more e es j in let b = c.counted j in omega arith);
-  begun = ((λ k. absurd (let b = c.counted e.origin in omega (arith, h.0, k, b))), c.begun);
+  within = λ j. (let a = count_more e es j in let b = c.within j in omega arith);
+  begun = ((λ k. absurd (let b = c.within e.origin in omega (arith, h.0, k, b))), c.begun);
 }
 
 -- more is closed, where the entries that come inside began at vectors at most it
 pub closed_wider : (es : List Entry) (f g : ℕ → ℕ) → ClosedBy es f → ((j : ℕ) → f j ≤ g j) → ((j : ℕ) → g j ≤ count_at j es)
     → Each (λ e. e.seq ≤ g e.origin → (e.seq ≤ f e.origin) ⊎ ((j : ℕ) → at e.begin j ≤ g j)) es → ClosedBy es g
 closed_wider es f g c le bound new = record {
-  counted = bound;
+  within = bound;
   begun = each_map2 (λ e. e.seq ≤ f e.origin → (j : ℕ) → at e.begin j ≤ f j) (λ e. e.seq ≤ g e.origin → (e.seq ≤ f e.origin) ⊎ ((j : ℕ) → at e.begin j ≤ g j))
       (λ e. e.seq ≤ g e.origin → (j : ℕ) → at e.begin j ≤ g j)
       (λ e old cases k j. elim (cases k) [ inl a ↦ (let x = old a j in let y = le j in omega arith) | inr b ↦ b j ]) es c.begun new;
@@ -61,7 +61,7 @@ closed_wider es f g c le bound new = record {
 
 pub closed_same : (es : List Entry) (f g : ℕ → ℕ) → ((j : ℕ) → g j ≡ f j) → ClosedBy es f → ClosedBy es g
 closed_same es f g e c = record {
-  counted = λ j. (let a = e j in let b = c.counted j in omega arith);
+  within = λ j. (let a = e j in let b = c.within j in omega arith);
   begun = each_map (λ d. d.seq ≤ f d.origin → (j : ℕ) → at d.begin j ≤ f j) (λ d. d.seq ≤ g d.origin → (j : ℕ) → at d.begin j ≤ g j)
       (λ d h k j. (let a = e d.origin in let b = e j in let x = h (omega arith) j in omega arith)) es c.begun;
 }
@@ -74,7 +74,7 @@ closed_own e es f g h c own up same le =
     closed_wider (e ∷ es) f g (closed_more e es f h c) wide
     (λ j. elim (cases_eq j e.origin) [
       | inl p ↦ (let a = ap f p in let b = ap g p in let d = count_own e es j (sym p) in let k = ap (λ (o : ℕ). count_at o es) p in omega arith)
-      | inr n ↦ (let a = same j n in let b = c.counted j in let d = count_more e es j in omega arith)
+      | inr n ↦ (let a = same j n in let b = c.within j in let d = count_more e es j in omega arith)
     ]) (
       (λ k. inr (λ j. (let a = le j in let b = wide j in omega arith))),
       each_map (λ d. d.seq ≤ count_at d.origin es) (λ d. d.seq ≤ g d.origin → (d.seq ≤ f d.origin) ⊎ ((j : ℕ) → at d.begin j ≤ g j))
@@ -93,7 +93,7 @@ closed_next es f g o e c one more up same le =
     closed_wider es f g c wide
     (λ j. elim (cases_eq j o) [
       | inl p ↦ (let b = ap g p in let k = ap (λ (i : ℕ). count_at i es) p in omega arith)
-      | inr n ↦ (let a = same j n in let b = c.counted j in omega arith)
+      | inr n ↦ (let a = same j n in let b = c.within j in omega arith)
     ])
     (each_map (λ d. d.origin ≡ o → d.seq ≡ suc (f o) → d ≡ e) (λ d. d.seq ≤ g d.origin → (d.seq ≤ f d.origin) ⊎ ((j : ℕ) → at d.begin j ≤ g j))
     (λ d u k. elim (cases_eq d.origin o) [
@@ -108,7 +108,7 @@ closed_next es f g o e c one more up same le =
 -- a vector that is what a site has is closed, with the function's values
 pub closed_vector : (count : ℕ) (es : List Entry) (f : ℕ → ℕ) → Each (λ e. length e.begin ≡ count) es → ClosedBy es f → ClosedBy es (at (vector_by count f))
 closed_vector count es f long c = record {
-  counted = λ j. (let a = at_by_below count f j in let b = c.counted j in omega arith);
+  within = λ j. (let a = at_by_below count f j in let b = c.within j in omega arith);
   begun = each_map2 (λ e. length e.begin ≡ count) (λ e. e.seq ≤ f e.origin → (j : ℕ) → at e.begin j ≤ f j) (λ e. e.seq ≤ at (vector_by count f) e.origin → (j : ℕ) → at e.begin j ≤ at (vector_by count f) j)
       (λ e l old k j. (let a = at_by_below count f e.origin in let b = old (omega arith) j in inside e j l b)) es long c.begun;
 }

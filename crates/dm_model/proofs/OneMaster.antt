@@ -250,7 +250,7 @@ writes_here layout past (Restart site vector Kept) n seat m h a =
     let c = all_hold (holds _ why.Shape ∷ clauses layout past (Restart site vector Kept)) h in
     kept (pending_at site past) (m.held site (holds_true _ _ c.1.0)) (n.in_doubt site (holds_true _ _ c.1.0))
   where
-    kept : (o : Option Pending) → Held (part_of layout) (entries past) (floor_at layout past site) (placing layout past) site o → InDoubt layout.sites (entries past) (reached site past) site o → WritesMastered layout past (option_to_list (option_map (step_of site) o))
+    kept : (o : Option Pending) → Held (part_of layout) (entries past) (floor_at layout past site) (placing layout past) site o → InDoubt layout.sites (entries past) (λ j. reached site j past) site o → WritesMastered layout past (option_to_list (option_map (step_of site) o))
     kept None d f = tt
     kept (Some (pending.Release part epoch to v)) d f = tt
     kept (Some (pending.Grant part epoch v)) d f = tt

@@ -31,7 +31,7 @@ module _ (layout : Layout) (past : List Step) (c : ℕ) where
       → may_say layout past c s ≡ true
   by_route site choice r s e l h = by_want r.want refl h
     where
-      placed : (part : ℕ) (epochs : List ℕ) → r.want ≡ want.Place part → settled_epochs layout c part r.site past ≡ epochs → option_map (said.Placed part r.site) (slice_get epochs 0) ≡ Some s
+      placed : (part : ℕ) (epochs : List ℕ) → r.want ≡ want.Place part → settled_epochs layout past c part r.site ≡ epochs → option_map (said.Placed part r.site) (slice_get epochs 0) ≡ Some s
           → may_say layout past c s ≡ true
       placed part [] w q g = absurd (cc (g))
       placed part (epoch ∷ more) w q g =
@@ -152,10 +152,10 @@ module _ (layout : Layout) (past : List Step) (c : ℕ) where
   due_given (said.Read site) h m u = ended_due (state c past) _ site h
   due_given (said.InDoubt site) h m u = doubted_due (state c past) _ site h
   due_given (said.Placed part site epoch) h m u =
-      let p = and_parts (is_routed_for c site (wants_place part) past) (is_among (settled_epochs layout c part site past) epoch) h in
+      let p = and_parts (is_routed_for c site (wants_place part) past) (is_among (settled_epochs layout past c part site) epoch) h in
       let r = stands_routed site (wants_place part) p.0 in
       route_due r.0 site (want.Place part) r.1 r.2 r.3 (is_place part r.0.want r.4)
-      (map_some (said.Placed part site) (slice_get (settled_epochs layout c part site past) 0) (some_first (settled_epochs layout c part site past) epoch p.1))
+      (map_some (said.Placed part site) (slice_get (settled_epochs layout past c part site) 0) (some_first (settled_epochs layout past c part site) epoch p.1))
   due_given (said.Restarted site) h m u =
       let p = and_parts (is_routed_for c site wants_restart past) (restarted_since c site past) h in
       let r = stands_routed site wants_restart p.0 in

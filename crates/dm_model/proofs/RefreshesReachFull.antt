@@ -28,11 +28,11 @@ use Rattle.dm_model.specs.Shape.{is_site}
 
 -- ---- the floor
 
-pub closed_floor : (layout : Layout) (past : List Step) → LegalPast layout past → (site : ℕ) → Closed past (floor layout.sites past site)
+pub closed_floor : (layout : Layout) (past : List Step) → LegalPast layout past → (site : ℕ) → Closed (floor layout.sites past site) past
 closed_floor layout past h site =
     let c = floor_closed layout past h site in
     record {
-      counted = c.counted;
+      within = c.within;
       begun = each_map (λ e. e.seq ≤ floor_at layout past site e.origin → (j : ℕ) → at e.begin j ≤ floor_at layout past site j) (λ e. is_inside (floor layout.sites past site) e ≡ true → AtMost e.begin (floor layout.sites past site))
           (λ e f inside. f (leb-true e.seq (at (floor layout.sites past site) e.origin) inside)) (entries past) c.begun;
     }
@@ -41,14 +41,14 @@ closed_floor layout past h site =
 
 pub lagging_may_refresh : (layout : Layout) (past : List Step) → LegalPast layout past → (site : ℕ) → is_site layout site ≡ true → is_down site past ≡ false → site_vector layout.sites past site ≢ full layout.sites past
     → (origin : ℕ) × Allowed layout past (Refresh site origin)
-lagging_may_refresh layout past h site is up differ = by_lag (find (λ j. nat_lt (reached site past j) (entry_count j past)) (sites_to layout.sites)) refl
+lagging_may_refresh layout past h site is up differ = by_lag (find (λ j. nat_lt (reached site j past) (entry_count j past)) (sites_to layout.sites)) refl
   where
-    by_lag : (o : Option ℕ) → find (λ j. nat_lt (reached site past j) (entry_count j past)) (sites_to layout.sites) ≡ o → (origin : ℕ) × Allowed layout past (Refresh site origin)
-    by_lag (Some j) f = may_refresh layout past h site is up j (ltb-true (reached site past j) (entry_count j past) (found_holds (λ j. nat_lt (reached site past j) (entry_count j past)) (sites_to layout.sites) j f))
+    by_lag : (o : Option ℕ) → find (λ j. nat_lt (reached site j past) (entry_count j past)) (sites_to layout.sites) ≡ o → (origin : ℕ) × Allowed layout past (Refresh site origin)
+    by_lag (Some j) f = may_refresh layout past h site is up j (ltb-true (reached site j past) (entry_count j past) (found_holds (λ j. nat_lt (reached site j past) (entry_count j past)) (sites_to layout.sites) j f))
     by_lag None f =
-        absurd (differ (map_same (reached site past) (λ j. entry_count j past) 1 layout.sites (λ j l m.
-        let a = ltb-false (reached site past j) (entry_count j past) (each_range (λ j. nat_lt (reached site past j) (entry_count j past) ≡ false) 1 layout.sites (find_none (λ j. nat_lt (reached site past j) (entry_count j past)) (sites_to layout.sites) f) j l m) in
-        let b = ((sound_past layout past h).closed site).counted j in
+        absurd (differ (map_same (λ j. reached site j past) (λ j. entry_count j past) 1 layout.sites (λ j l m.
+        let a = ltb-false (reached site j past) (entry_count j past) (each_range (λ j. nat_lt (reached site j past) (entry_count j past) ≡ false) 1 layout.sites (find_none (λ j. nat_lt (reached site j past) (entry_count j past)) (sites_to layout.sites) f) j l m) in
+        let b = ((sound_past layout past h).closed site).within j in
         omega arith)))
 
 -- ---- a site that has all

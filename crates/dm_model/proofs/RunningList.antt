@@ -87,6 +87,6 @@ each_running P i past t h r =
     (each_reverse (λ u. runs i u past ≡ true → P u) (filter_map (begun_at i) past) (each_filter P (λ u. runs i u past) (reverse (filter_map (begun_at i) past)) h))
     (begun_any i t past r) r
 
-pub no_holder : (past : List Step) (keys : List ℕ) (ts : List TxnId) → holder_among past keys ts ≡ None → Each (λ t. common_key keys (declared t past) ≡ None) ts
+pub no_holder : (past : List Step) (keys : List ℕ) (ts : List TxnId) → holder_among keys ts past ≡ None → Each (λ t. common_key keys (declared t past) ≡ None) ts
 no_holder past keys [] h = tt
-no_holder past keys (t ∷ ts) h = (let p = none_parts _ (holder_among past keys ts) h in (map_none _ _ p.0, no_holder past keys ts p.1))
+no_holder past keys (t ∷ ts) h = (let p = none_parts _ (holder_among keys ts past) h in (map_none _ _ p.0, no_holder past keys ts p.1))

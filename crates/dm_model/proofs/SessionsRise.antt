@@ -46,7 +46,7 @@ joined_more : (count : ℕ) (o : Option (List ℕ)) (vs : List (List ℕ)) (j : 
 joined_more count None vs j = omega arith
 joined_more count (Some v) vs j = join_keeps count v vs j
 
-pub session_within : (count c : ℕ) (v : List ℕ) (past : List Step) → AtMost (session_vector count past c) v → SessionWithin count c v past
+pub session_within : (count c : ℕ) (v : List ℕ) (past : List Step) → AtMost (session_vector count past c) v → SessionWithin count past c v
 session_within count c v [] h = h
 session_within count c v (s ∷ past) h = (h, session_within count c v past (λ j. le_trans (joined_more count (answered_by c s past) (answered c past) j) (h j)))
 
@@ -226,7 +226,7 @@ sessions_past layout [] h = λ c. tt
 sessions_past layout (st ∷ past) h = says_step layout past (sound_past layout past h.0) (seated layout past h.0) (last_begins layout past h.0) (sessions_past layout past h.0) st h.1
 
 answered_committed : (count : ℕ) (past : List Step) (c number site seq : ℕ) (st : AttemptState) → StateSays count past c st → is_committed st site seq ≡ true
-    → AnswersUp count (Reply c number (said.Committed site seq)) past
+    → AnswersUp count past (Reply c number (said.Committed site seq))
 answered_committed count past c number site seq (Committed i k) h m =
     let p = and_parts (i == site) (k == seq) m in (
       h.0,
@@ -235,11 +235,11 @@ answered_committed count past c number site seq (Committed i k) h m =
     )
 answered_committed count past c number site seq other h m = absurd (false≢true m)
 
-answered_read : (count : ℕ) (past : List Step) (c number site : ℕ) (st : AttemptState) → StateSays count past c st → is_ended st site ≡ true → AnswersUp count (Reply c number (said.Read site)) past
+answered_read : (count : ℕ) (past : List Step) (c number site : ℕ) (st : AttemptState) → StateSays count past c st → is_ended st site ≡ true → AnswersUp count past (Reply c number (said.Read site))
 answered_read count past c number site (Ended i) h m = (h.0, h.1, session_within count c h.0 past h.2)
 answered_read count past c number site other h m = absurd (false≢true m)
 
-answer_up : (layout : Layout) (past : List Step) (st : Step) → SessionsPast layout past → Allowed layout past st → AnswersUp layout.sites st past
+answer_up : (layout : Layout) (past : List Step) (st : Step) → SessionsPast layout past → Allowed layout past st → AnswersUp layout.sites past st
 answer_up layout past (Reply session number (said.Committed site seq)) s h =
     let a = all_hold (holds _ why.Shape ∷ clauses layout past (Reply session number (said.Committed site seq))) h in
     answered_committed layout.sites past session number site seq (state session past) (s session) (holds_true _ _ a.1.1.0)

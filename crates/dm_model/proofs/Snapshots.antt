@@ -37,45 +37,45 @@ abbrev pub value_in : Layout → List Entry → List ℕ → ℕ → ℤ
 value_in layout es v key = unwrap_or (newest es key v) (opening_value layout key)
 
 -- the vector is at most the counts
-abbrev pub Counted : List Entry → List ℕ → Type 0
-Counted es v = (j : ℕ) → at v j ≤ count_at j es
+abbrev pub WithinCounts : List Entry → List ℕ → Type 0
+WithinCounts es v = (j : ℕ) → at v j ≤ count_at j es
 
--- an entry that comes is inside no vector that is counted
-pub value_more : (layout : Layout) (d : Entry) (es : List Entry) (v : List ℕ) → Numbered (d ∷ es) → Counted es v → value_in layout (d ∷ es) v ≡ value_in layout es v
+-- an entry that comes is inside no vector that is within the counts
+pub value_more : (layout : Layout) (d : Entry) (es : List Entry) (v : List ℕ) → Numbered (d ∷ es) → WithinCounts es v → value_in layout (d ∷ es) v ≡ value_in layout es v
 value_more layout d es v n c =
     let out : is_inside v d ≡ false = lt-leb d.seq (at v d.origin) (let a = c d.origin in omega (arith, n.0)) in
     λ i key. unwrap_or (option_or (if out i then written d.writes key else None) (newest es key v)) (opening_value layout key)
 
-pub counted_more : (d : Entry) (es : List Entry) (v : List ℕ) → Counted es v → Counted (d ∷ es) v
-counted_more d es v c j = (let a = count_more d es j in let b = c j in omega arith)
+pub within_more : (d : Entry) (es : List Entry) (v : List ℕ) → WithinCounts es v → WithinCounts (d ∷ es) v
+within_more d es v c j = (let a = count_more d es j in let b = c j in omega arith)
 
 -- the entry read and wrote what its ops do at its begin vector
 pub record Fits (layout : Layout) (es : List Entry) (e : Entry) : Type 0 where
   pub reads : e.reads ≡ (body e.ops (value_in layout es e.begin)).reads
   pub writes : e.writes ≡ (body e.ops (value_in layout es e.begin)).writes
-  pub counted : Counted es e.begin
+  pub within : WithinCounts es e.begin
 
 pub fits_more : (layout : Layout) (d : Entry) (es : List Entry) (e : Entry) → Numbered (d ∷ es) → Fits layout es e → Fits layout (d ∷ es) e
 fits_more layout d es e n f =
-    let same = value_more layout d es e.begin n f.counted in
+    let same = value_more layout d es e.begin n f.within in
     record {
       reads = f.reads ∙ ap (λ (g : ℕ → ℤ). (body e.ops g).reads) (sym same);
       writes = f.writes ∙ ap (λ (g : ℕ → ℤ). (body e.ops g).writes) (sym same);
-      counted = counted_more d es e.begin f.counted;
+      within = within_more d es e.begin f.within;
     }
 
 -- the ends in these steps
 abbrev pub EndsFit : Layout → List Entry → List Step → Type 0
 EndsFit layout es [] = Unit {0}
 EndsFit layout es (End site txn ops reads ∷ past) =
-    (reads ≡ (body ops (value_in layout es (began_at txn past))).reads) × Counted es (began_at txn past) × EndsFit layout es past
+    (reads ≡ (body ops (value_in layout es (began_at txn past))).reads) × WithinCounts es (began_at txn past) × EndsFit layout es past
 EndsFit layout es (s ∷ past) = EndsFit layout es past
 
 pub ends_more : (layout : Layout) (d : Entry) (es : List Entry) (past : List Step) → Numbered (d ∷ es) → EndsFit layout es past → EndsFit layout (d ∷ es) past
 ends_more layout d es [] n h = tt
 ends_more layout d es (End site txn ops reads ∷ past) n h = (
   h.0 ∙ ap (λ (g : ℕ → ℤ). (body ops g).reads) (sym (value_more layout d es (began_at txn past) n h.1)),
-  counted_more d es _ h.1,
+  within_more d es _ h.1,
   ends_more layout d es past n h.2,
 )
 ends_more layout d es (s ∷ past) n h = ends_more layout d es past n h
@@ -123,7 +123,7 @@ module _ (layout : Layout) (past : List Step) (n : SoundPast layout past) (s : S
       record {
         reads = pairs_same e.reads _ b.0;
         writes = pairs_same e.writes _ b.1;
-        counted = λ j. (let x = f.2.below j in let y = (n.closed e.origin).counted j in omega arith);
+        within = λ j. (let x = f.2.below j in let y = (n.closed e.origin).within j in omega arith);
       }
 
   rise : (site k : ℕ) (o : Option Bool) → unwrap_or (option_or (if site == k then Some false else None) o) false ≡ true → unwrap_or o false ≡ true
@@ -153,7 +153,7 @@ snap_step layout past (End site txn ops reads) n h s =
     let r = n.running site txn (runs_due layout past txn site (holds_true _ _ c.1.0) c.1.1.0) in
     same_entries layout _ past _ _ _ _ _ s (
       pairs_same reads _ (holds_true _ _ c.1.1.1.1.0),
-      (λ j. (let a = r.2.below j in let b = (n.closed site).counted j in let e = ap (λ (o : Option (List ℕ)). at (unwrap_or o []) j) r.1 in omega arith)),
+      (λ j. (let a = r.2.below j in let b = (n.closed site).within j in let e = ap (λ (o : Option (List ℕ)). at (unwrap_or o []) j) r.1 in omega arith)),
       s.ends,
     ) s.held
 snap_step layout past (Doubt site (pending.Commit e)) n h s =

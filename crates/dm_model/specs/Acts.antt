@@ -18,7 +18,7 @@ acts_of s past = []
 -- no act.
 abbrev pub acts : List Step → List Step
 acts [] = []
-acts (s ∷ past) = acts_of s past ++ acts past
+acts (step ∷ past) = acts_of step past ++ acts past
 
 abbrev pub entry_of : Step → Option Entry
 entry_of (Commit entry) = Some entry
@@ -30,4 +30,4 @@ entries past = filter_map entry_of (acts past)
 
 -- the entry with this origin and number
 abbrev pub entry_at : ℕ → ℕ → List Step → Option Entry
-entry_at j n past = find (λ e. (e.origin == j) && (e.seq == n)) (entries past)
+entry_at origin seq past = find (λ e. (e.origin == origin) && (e.seq == seq)) (entries past)

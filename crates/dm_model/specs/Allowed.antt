@@ -1,6 +1,7 @@
 -- Which step may follow a past, and why another may not: each row with what it reads of the past.
 use Rattle.std.specs.Option.{option_map_or, option_or}
-use Rattle.std.specs.Prelude.{ℕ, ◌+◌, ◌≡◌, ◌==◌, Bool, false, nat_lt, ◌&&◌, ◌||◌, not, List, [], ◌∷◌, ◌++◌, Option, None, is_none, is_some, option_map, option_and_then, option_to_list, find, reverse}
+use Rattle.std.specs.Prelude.{ℕ, ◌+◌, ◌≡◌, ◌==◌, Bool, false, nat_lt, ◌&&◌, ◌||◌, not, List, [], ◌∷◌, ◌++◌, Option, None, is_none, is_some, option_map}
+use Rattle.std.specs.Prelude.{option_and_then, option_to_list, find, reverse}
 use Rattle.dm_event.specs.Layout.{Layout}
 use Rattle.dm_event.specs.Vectors.{at, sites_to, first_above, raised}
 use Rattle.dm_event.specs.declared.step.Choice.{Choice}
@@ -30,7 +31,8 @@ use Rattle.dm_model.specs.Floors.{floor}
 use Rattle.dm_model.specs.Outcomes.{may_say}
 use Rattle.dm_model.specs.Placings.{placing, may_begin_now}
 use Rattle.dm_model.specs.Progress.{entry_count, site_vector}
-use Rattle.dm_model.specs.Rows.{route_row, reply_row, begin_row, moved_row, commit_row, end_row, fail_row, refresh_row, restart_row, ask_row, release_row, grant_row, settle_row}
+use Rattle.dm_model.specs.Rows.{BeginReads, CommitReads, route_row, reply_row, begin_row, moved_row, commit_row, end_row, fail_row, refresh_row, restart_row}
+use Rattle.dm_model.specs.Rows.{ask_row, release_row, grant_row, settle_row}
 use Rattle.dm_model.specs.Runs.{running, run_site, began_at}
 use Rattle.dm_model.specs.Sessions.{session_vector}
 use Rattle.dm_model.specs.Shape.{is_shaped}
@@ -38,28 +40,28 @@ use Rattle.dm_model.specs.Tests.{is_among, same_choice}
 
 -- the least of the keys' partitions on which the site may not begin
 abbrev pub elsewhere : Layout → List Step → ℕ → List ℕ → Option ℕ
-elsewhere layout past site keys = find (λ p. not (may_begin_now (placing layout past p) site)) (parts_in_order layout keys)
+elsewhere layout past site keys = find (λ part. not (may_begin_now (placing layout past part) site)) (parts_in_order layout keys)
 
 -- the first of the keys that is also among the others
 abbrev pub common_key : List ℕ → List ℕ → Option ℕ
 common_key keys others = find (is_among others) keys
 
 -- the first of the attempts that declares one of the keys, with the first such key
-abbrev pub holder_among : List Step → List ℕ → List TxnId → Option (TxnId × ℕ)
-holder_among past keys [] = None
-holder_among past keys (t ∷ ts) = option_or (option_map (λ key. (t, key)) (common_key keys (declared t past))) (holder_among past keys ts)
+abbrev pub holder_among : List ℕ → List TxnId → List Step → Option (TxnId × ℕ)
+holder_among keys [] past = None
+holder_among keys (txn ∷ more) past = option_or (option_map (λ key. (txn, key)) (common_key keys (declared txn past))) (holder_among keys more past)
 
 -- the earliest begun attempt at the site that declares one of the keys
-abbrev pub holder : List Step → ℕ → List ℕ → Option (TxnId × ℕ)
-holder past site keys = holder_among past keys (running site past)
+abbrev pub holder : ℕ → List ℕ → List Step → Option (TxnId × ℕ)
+holder site keys past = holder_among keys (running site past) past
 
 -- the earliest begun attempt at the site that declares a key of the partition
 abbrev pub runner : Layout → List Step → ℕ → ℕ → Option TxnId
-runner layout past site part = find (λ t. is_among (parts_in_order layout (declared t past)) part) (running site past)
+runner layout past site part = find (λ txn. is_among (parts_in_order layout (declared txn past)) part) (running site past)
 
 -- the least site, other than the entry's origin, of which the vector has fewer entries than the entry's begin vector
 abbrev pub missing_for : ℕ → List ℕ → Entry → Option ℕ
-missing_for count v e = find (λ j. not (j == e.origin) && nat_lt (at v j) (at e.begin j)) (sites_to count)
+missing_for count v entry = find (λ site. not (site == entry.origin) && nat_lt (at v site) (at entry.begin site)) (sites_to count)
 
 -- the entry of the origin that the site would take over next
 abbrev pub next_entry : Layout → List Step → ℕ → ℕ → Option Entry
@@ -73,10 +75,10 @@ wants_part layout part choice (want.Place p) = p == part
 wants_part layout part choice want.Restart = false
 
 -- the past with the pending step, where the Restart keeps it
-abbrev pub past_with : ℕ → Found → List Step → List Step
-past_with site Kept past = option_to_list (option_map (step_of site) (pending_at site past)) ++ past
-past_with site Clean past = past
-past_with site Lost past = past
+abbrev pub with_kept : ℕ → Found → List Step → List Step
+with_kept site Kept past = option_to_list (option_map (step_of site) (pending_at site past)) ++ past
+with_kept site Clean past = past
+with_kept site Lost past = past
 
 module _ (layout : Layout) (past : List Step) where
   abbrev pub route_clauses : TxnId → Want → List ℕ → ℕ → Choice → List Clause
@@ -85,22 +87,34 @@ module _ (layout : Layout) (past : List Step) where
       (due_for layout past txn.session want site) (attempt txn.session past) txn min site choice
 
   abbrev pub reply_clauses : ℕ → ℕ → Said → List Clause
-  reply_clauses c number said = reply_row (replies c past + 1) (may_say layout past c said) number
+  reply_clauses session number said = reply_row (replies session past + 1) (may_say layout past session said) number
 
   abbrev pub begin_clauses : ℕ → TxnId → List ℕ → List Clause
   begin_clauses site txn begin =
-      begin_row (option_map (λ r. r.site) (routed_txn txn past)) (is_down site past) (elsewhere layout past site (declared txn past))
-      (site_vector layout.sites past site) (option_and_then (λ r. first_above layout.sites r.min begin) (routed_txn txn past))
-      (holder past site (declared txn past)) site begin
+      let reads : BeginReads = record {
+        to = option_map (λ r. r.site) (routed_txn txn past);
+        down = is_down site past;
+        elsewhere = elsewhere layout past site (declared txn past);
+        vector = site_vector layout.sites past site;
+        behind = option_and_then (λ r. first_above layout.sites r.min begin) (routed_txn txn past);
+        holder = holder site (declared txn past) past;
+      } in
+      begin_row reads site begin
 
   abbrev pub moved_clauses : ℕ → TxnId → List Clause
   moved_clauses site txn =
       moved_row (option_map (λ r. r.site) (routed_txn txn past)) (is_down site past) (elsewhere layout past site (declared txn past)) site
 
   abbrev pub commit_clauses : Entry → List Clause
-  commit_clauses e =
-      commit_row (run_site layout past e.txn) (entry_count e.origin past + 1) (began_at e.txn past)
-      (first_undeclared (declared e.txn past) e.ops) (ran_at layout past e.begin e.ops) e
+  commit_clauses entry =
+      let reads : CommitReads = record {
+        runs = run_site layout past entry.txn;
+        due = entry_count entry.origin past + 1;
+        begin = began_at entry.txn past;
+        undeclared = first_undeclared (declared entry.txn past) entry.ops;
+        ran = ran_at layout past entry.begin entry.ops;
+      } in
+      commit_row reads entry
 
   abbrev pub end_clauses : ℕ → TxnId → List Op → List Pair → List Clause
   end_clauses site txn ops reads = end_row (run_site layout past txn) (ran_at layout past (began_at txn past) ops).reads site ops reads
@@ -113,13 +127,13 @@ module _ (layout : Layout) (past : List Step) where
       refresh_row (is_down site past) (is_some (next_entry layout past site origin))
       (option_and_then (missing_for layout.sites (site_vector layout.sites past site)) (next_entry layout past site origin)) site origin
 
-  -- with a kept pending step counted from here on
+  -- a kept pending step counts already
   abbrev pub restart_clauses : ℕ → List ℕ → Found → List Clause
   restart_clauses site vector found =
-      let counted = past_with site found past in
-      restart_row (is_down site past) (entry_count site counted) (first_above layout.sites (floor layout.sites counted site) vector)
-      (first_above layout.sites vector (raised (site_vector layout.sites past site) site (entry_count site counted)))
-      (option_map (λ e. (e.origin, e.seq)) (unclosed layout.sites vector (reverse (entries counted)))) site vector found
+      let kept = with_kept site found past in
+      restart_row (is_down site past) (entry_count site kept) (first_above layout.sites (floor layout.sites kept site) vector)
+      (first_above layout.sites vector (raised (site_vector layout.sites past site) site (entry_count site kept)))
+      (option_map (λ e. (e.origin, e.seq)) (unclosed layout.sites vector (reverse (entries kept)))) site vector found
 
   abbrev pub ask_clauses : ℕ → ℕ → ℕ → TxnId → List Clause
   ask_clauses part epoch to txn =

@@ -21,7 +21,7 @@ is_reply c s = false
 
 -- how many of the session's items are answered: the current item has the next number
 abbrev pub replies : ℕ → List Step → ℕ
-replies c past = count_of (is_reply c) past
+replies session past = count_of (is_reply session) past
 
 abbrev pub is_route : ℕ → Step → Bool
 is_route c (Route txn want min site choice) = txn.session == c
@@ -29,7 +29,7 @@ is_route c s = false
 
 -- how many Routes the session's current item has
 abbrev pub routes : ℕ → List Step → ℕ
-routes c past = count_of (is_route c) (since (is_reply c) past)
+routes session past = count_of (is_route session) (since (is_reply session) past)
 
 -- what a Route says
 pub record Routing : Type 0 where
@@ -47,7 +47,7 @@ routing_of p s = None
 
 -- the last Route of the session
 abbrev pub last_routing : ℕ → List Step → Option Routing
-last_routing c past = latest (routing_of (λ txn. txn.session == c)) past
+last_routing session past = latest (routing_of (λ txn. txn.session == session)) past
 
 -- the Route of the attempt
 abbrev pub routing : TxnId → List Step → Option Routing
@@ -88,12 +88,12 @@ dropped_by (Restart site vector found) before = dropped_at site before
 dropped_by s before = before
 
 abbrev pub state : ℕ → List Step → AttemptState
-state c [] = stands.Unrouted
-state c (s ∷ past) = unwrap_or (state_by c s) (dropped_by s (state c past))
+state session [] = stands.Unrouted
+state session (step ∷ past) = unwrap_or (state_by session step) (dropped_by step (state session past))
 
 -- the last attempt at the session's current item, which has none before its first Route
 abbrev pub attempt : ℕ → List Step → Attempt
-attempt c past = record { txn = option_map (λ r. r.txn) (last_routing c (since (is_reply c) past)); state = state c past }
+attempt session past = record { txn = option_map (λ r. r.txn) (last_routing session (since (is_reply session) past)); state = state session past }
 
 -- ---- Routes of which nothing has come yet
 
@@ -103,7 +103,7 @@ is_routed other = false
 
 -- the session's last Route, where the session stands routed
 abbrev pub standing : ℕ → List Step → Option Routing
-standing c past = if is_routed (state c past) then last_routing c past else None
+standing session past = if is_routed (state session past) then last_routing session past else None
 
 -- the attempt's Route, where its session stands routed by it
 abbrev pub routed : TxnId → List Step → Option Routing

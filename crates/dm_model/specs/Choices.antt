@@ -39,7 +39,7 @@ abbrev pub window : Layout → List Step → List (List ℕ)
 window layout past = take 256 (filter_map (declared_parts layout) past)
 
 abbrev pub home : Layout → List Step → ℕ → ℕ
-home layout past p = home_now (placing layout past p)
+home layout past part = home_now (placing layout past part)
 
 -- the site's score for the wanted partitions
 abbrev pub score : Layout → List Step → List ℕ → ℕ → ℤ
@@ -61,7 +61,8 @@ circle sites session = map (λ k. 1 + (session - 1 + k) % sites) (range_with_len
 -- the first site of the circle that has what the session has seen, or the first of all where none has
 abbrev pub reader_site : Layout → List Step → ℕ → ℕ
 reader_site layout past session =
-    unwrap_or (find (λ site. is_at_most layout.sites (session_vector layout.sites past session) (site_vector layout.sites past site)) (circle layout.sites session))
+    unwrap_or (find (λ site. is_at_most layout.sites (session_vector layout.sites past session) (site_vector layout.sites past site))
+    (circle layout.sites session))
     (1 + (session - 1) % layout.sites)
 
 abbrev pub writer_choice : Option ℕ → ℕ → ℕ × Choice

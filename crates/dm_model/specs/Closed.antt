@@ -12,8 +12,8 @@ abbrev pub is_inside : List ℕ → Entry → Bool
 is_inside v e = nat_le e.seq (at v e.origin)
 
 -- the vector is at most the full one, and each entry inside it began at a vector at most it
-pub record Closed (past : List Step) (v : List ℕ) : Type 0 where
-  pub counted : (j : ℕ) → at v j ≤ entry_count j past
+pub record Closed (v : List ℕ) (past : List Step) : Type 0 where
+  pub within : (origin : ℕ) → at v origin ≤ entry_count origin past
   pub begun : AllByRecursion (λ e. IsTrue (is_inside v e) → AtMost e.begin v) (entries past)
 
 -- the first entry inside the vector that began at a vector not at most it

@@ -14,7 +14,7 @@ down_after i s = None
 
 -- from a Doubt of the site to its next Restart
 abbrev pub is_down : ℕ → List Step → Bool
-is_down i past = unwrap_or (latest (down_after i) past) false
+is_down site past = unwrap_or (latest (down_after site) past) false
 
 abbrev pub doubt_at : ℕ → Step → Option Pending
 doubt_at i (Doubt site p) = if site == i then Some p else None
@@ -22,7 +22,7 @@ doubt_at i s = None
 
 -- the pending step of the site's last Doubt
 abbrev pub pending_at : ℕ → List Step → Option Pending
-pending_at i past = latest (doubt_at i) past
+pending_at site past = latest (doubt_at site) past
 
 -- the pending step, as a step of the site
 abbrev pub step_of : ℕ → Pending → Step

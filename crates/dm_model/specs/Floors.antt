@@ -13,8 +13,8 @@ floor_vector i (Grant site part epoch vector) = if site == i then Some vector el
 floor_vector i s = None
 
 abbrev pub floor_vectors : ℕ → List Step → List (List ℕ)
-floor_vectors i past = filter_map (floor_vector i) (acts past)
+floor_vectors site past = filter_map (floor_vector site) (acts past)
 
 -- the maximum of these vectors, zeros where there are none
 abbrev pub floor : ℕ → List Step → ℕ → List ℕ
-floor count past i = join_all count (floor_vectors i past)
+floor count past site = join_all count (floor_vectors site past)

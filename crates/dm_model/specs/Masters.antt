@@ -17,9 +17,9 @@ releases i p e (Release site part epoch to vector) = (site == i) && ((part == p)
 releases i p e s = false
 
 abbrev pub opens_with : Layout → ℕ → ℕ → ℕ → Bool
-opens_with layout i p e = (slice_index layout.masters p == i) && (e == 0)
+opens_with layout site part epoch = (slice_index layout.masters part == site) && (epoch == 0)
 
 -- the pair was the site's at the opening or granted to it, and the site did not release it
 abbrev pub masters : Layout → List Step → ℕ → ℕ → ℕ → Bool
-masters layout past i p e =
-    (opens_with layout i p e || list_any (grants i p e) (acts past)) && not (list_any (releases i p e) (acts past))
+masters layout past site part epoch =
+    (opens_with layout site part epoch || list_any (grants site part epoch) (acts past)) && not (list_any (releases site part epoch) (acts past))

@@ -15,26 +15,27 @@ takes p (Grant site part epoch vector) = if part == p then Some false else None
 takes p s = None
 
 -- the last Release or Grant of the partition is a Release
-abbrev pub is_released : List Step → ℕ → Bool
-is_released past p = unwrap_or (latest (takes p) (acts past)) false
+abbrev pub is_released : ℕ → List Step → Bool
+is_released part past = unwrap_or (latest (takes part) (acts past)) false
 
 -- at most one site masters the partition, under one epoch, and none exactly between a Release and a Grant
-pub record HasOneMaster (layout : Layout) (past : List Step) (p : ℕ) : Type 0 where
-  pub only : (i k e f : ℕ) → IsTrue (masters layout past i p e) → IsTrue (masters layout past k p f) → (i ≡ k) × (e ≡ f)
-  pub none : is_released past p ≡ true → (i e : ℕ) → masters layout past i p e ≡ false
-  pub some : is_released past p ≡ false → (i : ℕ) × (e : ℕ) × IsTrue (masters layout past i p e)
+pub record HasOneMaster (layout : Layout) (past : List Step) (part : ℕ) : Type 0 where
+  pub only : (site other epoch later : ℕ) → IsTrue (masters layout past site part epoch) → IsTrue (masters layout past other part later)
+      → (site ≡ other) × (epoch ≡ later)
+  pub none : is_released part past ≡ true → (site epoch : ℕ) → masters layout past site part epoch ≡ false
+  pub some : is_released part past ≡ false → (site : ℕ) × (epoch : ℕ) × IsTrue (masters layout past site part epoch)
 
 -- the entry that an act adds, if it adds one, is of the master of each partition that it writes
 abbrev pub WritesMastered : Layout → List Step → List Step → Type 0
 WritesMastered layout past [] = Unit {0}
 WritesMastered layout past (Commit entry ∷ more) =
     (key : ℕ) → IsTrue (writes_key entry key) → (epoch : ℕ) × IsTrue (masters layout past entry.origin (key / layout.width) epoch)
-WritesMastered layout past (s ∷ more) = Unit {0}
+WritesMastered layout past (act ∷ more) = Unit {0}
 
 abbrev pub OneMasterPast : Layout → List Step → Type 0
-OneMasterPast layout [] = (p : ℕ) → HasOneMaster layout [] p
-OneMasterPast layout (s ∷ past) =
-    ((p : ℕ) → HasOneMaster layout (s ∷ past) p) × WritesMastered layout past (acts_of s past) × OneMasterPast layout past
+OneMasterPast layout [] = (part : ℕ) → HasOneMaster layout [] part
+OneMasterPast layout (step ∷ past) =
+    ((part : ℕ) → HasOneMaster layout (step ∷ past) part) × WritesMastered layout past (acts_of step past) × OneMasterPast layout past
 
 -- at each place of the history
 abbrev pub OneMaster : Layout → List Step → Type 0

@@ -1,7 +1,8 @@
 -- What a session may be answered, and what is due.
 use Rattle.std.specs.List.{list_any}
 use Rattle.std.specs.Option.{option_map_or}
-use Rattle.std.specs.Prelude.{ℕ, Bool, true, false, ◌==◌, ◌&&◌, if◌then◌else◌, List, [], ◌∷◌, Option, Some, None, option_map, option_and_then, filter_map, slice_get}
+use Rattle.std.specs.Prelude.{ℕ, Bool, true, false, ◌==◌, ◌&&◌, if◌then◌else◌, List, [], ◌∷◌, Option, Some, None, option_map, option_and_then, filter_map}
+use Rattle.std.specs.Prelude.{slice_get}
 use Rattle.dm_event.specs.Layout.{Layout}
 use Rattle.dm_event.specs.declared.attempt.AttemptState.{AttemptState}
 use Rattle.dm_event.specs.declared.attempt.AttemptState.TheVariants as stands
@@ -23,9 +24,10 @@ use Rattle.dm_model.specs.Words.{since}
 -- ---- what a Route for a partition or a site has come to
 
 -- the placings of the partition at the session's last Route and after each later step, the latest first
-abbrev pub placings_since : Layout → ℕ → ℕ → List Step → List Placing
-placings_since layout c part [] = []
-placings_since layout c part (s ∷ past) = placing layout (s ∷ past) part ∷ (if is_route c s then [] else placings_since layout c part past)
+abbrev pub placings_since : Layout → List Step → ℕ → ℕ → List Placing
+placings_since layout [] session part = []
+placings_since layout (step ∷ past) session part =
+    placing layout (step ∷ past) part ∷ (if is_route session step then [] else placings_since layout past session part)
 
 abbrev pub settled_epoch : ℕ → Placing → Option ℕ
 settled_epoch site (Settled i epoch) = if i == site then Some epoch else None
@@ -34,12 +36,12 @@ settled_epoch site (Between i epoch to vector) = None
 settled_epoch site (Granted i epoch) = None
 
 -- the epochs under which the partition stood settled at the site, from the session's last Route on, the last first
-abbrev pub settled_epochs : Layout → ℕ → ℕ → ℕ → List Step → List ℕ
-settled_epochs layout c part site past = filter_map (settled_epoch site) (placings_since layout c part past)
+abbrev pub settled_epochs : Layout → List Step → ℕ → ℕ → ℕ → List ℕ
+settled_epochs layout past session part site = filter_map (settled_epoch site) (placings_since layout past session part)
 
 -- the site was restarted after the session's last Route
 abbrev pub restarted_since : ℕ → ℕ → List Step → Bool
-restarted_since c site past = list_any (is_restart site) (since (is_route c) past)
+restarted_since session site past = list_any (is_restart site) (since (is_route session) past)
 
 -- ---- the outcomes allowed
 
@@ -89,17 +91,17 @@ wants_restart (want.Place part) = false
 
 -- the session stands routed to the site for a want that passes
 abbrev pub is_routed_for : ℕ → ℕ → (Want → Bool) → List Step → Bool
-is_routed_for c site p past = option_map_or (λ r. (r.site == site) && p r.want) (standing c past) false
+is_routed_for session site passes past = option_map_or (λ r. (r.site == site) && passes r.want) (standing session past) false
 
 -- the outcome is allowed for the session
 abbrev pub may_say : Layout → List Step → ℕ → Said → Bool
-may_say layout past c (said.Committed site seq) = is_committed (state c past) site seq
-may_say layout past c (said.Read site) = is_ended (state c past) site
-may_say layout past c (said.InDoubt site) = is_doubted (state c past) site
-may_say layout past c (said.Placed part site epoch) =
-    is_routed_for c site (wants_place part) past && is_among (settled_epochs layout c part site past) epoch
-may_say layout past c (said.Restarted site) = is_routed_for c site wants_restart past && restarted_since c site past
-may_say layout past c (said.Refused why) = may_refuse (state c past) why
+may_say layout past session (said.Committed site seq) = is_committed (state session past) site seq
+may_say layout past session (said.Read site) = is_ended (state session past) site
+may_say layout past session (said.InDoubt site) = is_doubted (state session past) site
+may_say layout past session (said.Placed part site epoch) =
+    is_routed_for session site (wants_place part) past && is_among (settled_epochs layout past session part site) epoch
+may_say layout past session (said.Restarted site) = is_routed_for session site wants_restart past && restarted_since session site past
+may_say layout past session (said.Refused why) = may_refuse (state session past) why
 
 -- ---- the outcome due
 
@@ -122,12 +124,12 @@ due_in stands.Dropped by_route = None
 
 -- a place is due under the last epoch, and a restart once there was one
 abbrev pub due_of : Layout → List Step → ℕ → ℕ → Want → Option Said
-due_of layout past c site (want.Txn keys) = None
-due_of layout past c site (want.Place part) = option_map (said.Placed part site) (slice_get (settled_epochs layout c part site past) 0)
-due_of layout past c site want.Restart = if restarted_since c site past then Some (said.Restarted site) else None
+due_of layout past session site (want.Txn keys) = None
+due_of layout past session site (want.Place part) = option_map (said.Placed part site) (slice_get (settled_epochs layout past session part site) 0)
+due_of layout past session site want.Restart = if restarted_since session site past then Some (said.Restarted site) else None
 
 -- the outcome due for the session: refused for memory where its attempt failed for memory, else the one that is allowed beside
 -- refusals for memory and for undeclared writes, if there is one
 abbrev pub said_due : Layout → List Step → ℕ → Option Said
-said_due layout past c =
-    due_in (state c past) (option_and_then (λ r. due_of layout past c r.site r.want) (last_routing c past))
+said_due layout past session =
+    due_in (state session past) (option_and_then (λ r. due_of layout past session r.site r.want) (last_routing session past))

@@ -31,8 +31,8 @@ placed_by p s past placing = after_acts p (acts_of s past) placing
 
 -- the placing of the partition
 abbrev pub placing : Layout → List Step → ℕ → Placing
-placing layout [] p = Settled (slice_index layout.masters p) 0
-placing layout (s ∷ past) p = placed_by p s past (placing layout past p)
+placing layout [] part = Settled (slice_index layout.masters part) 0
+placing layout (step ∷ past) part = placed_by part step past (placing layout past part)
 
 -- the site masters a partition that is placed so
 abbrev pub masters_now : Placing → ℕ → Bool

@@ -8,11 +8,11 @@ use Rattle.dm_model.specs.Words.{latest, since, count_of}
 
 -- how many entries the origin has
 abbrev pub entry_count : ℕ → List Step → ℕ
-entry_count j past = count_of (λ e. e.origin == j) (entries past)
+entry_count origin past = count_of (λ e. e.origin == origin) (entries past)
 
 -- the number of entries of each origin
 abbrev pub full : ℕ → List Step → List ℕ
-full count past = vector_by count (λ j. entry_count j past)
+full count past = vector_by count (λ origin. entry_count origin past)
 
 abbrev pub is_restart : ℕ → Step → Bool
 is_restart i (Restart site vector found) = site == i
@@ -28,13 +28,13 @@ is_refresh i j s = false
 
 -- what the site's last Restart set, 0 before any, plus the site's Refreshes from the origin since then
 abbrev pub refreshed : ℕ → ℕ → List Step → ℕ
-refreshed i j past =
-    at (unwrap_or (latest (restart_vector i) past) []) j + count_of (is_refresh i j) (since (is_restart i) past)
+refreshed site origin past =
+    at (unwrap_or (latest (restart_vector site) past) []) origin + count_of (is_refresh site origin) (since (is_restart site) past)
 
--- how many entries of origin j site i has: all of its own, and of another origin those that it took over
-abbrev pub reached : ℕ → List Step → ℕ → ℕ
-reached i past j = if i == j then entry_count i past else refreshed i j past
+-- how many entries of the origin the site has: all of its own, and of another origin those that it took over
+abbrev pub reached : ℕ → ℕ → List Step → ℕ
+reached site origin past = if site == origin then entry_count site past else refreshed site origin past
 
 -- the site's vector
 abbrev pub site_vector : ℕ → List Step → ℕ → List ℕ
-site_vector count past i = vector_by count (reached i past)
+site_vector count past site = vector_by count (λ origin. reached site origin past)

@@ -53,21 +53,33 @@ reply_row due allowed number =
 
 -- ---- steps of an attempt
 
--- the site to which the attempt is routed for a transaction, whether the site is down, the least declared partition on which
--- it may not begin, its vector, the least component of the Route's minimum that is above the begin vector, and the earliest
--- begun attempt there that declares a common key, with the least such key
-abbrev pub begin_row : Option ℕ → Bool → Option ℕ → List ℕ → Option ℕ → Option (TxnId × ℕ) → ℕ → List ℕ → List Clause
-begin_row to down elsewhere vector behind holder site begin =
-    holds (is_some to) why.NotRouted
-    ∷ at_site to site
-    ∷ holds (not down) (why.Down site)
-    ∷ none_of elsewhere why.Elsewhere
-    ∷ holds (same_numbers begin vector) (why.WrongVector vector)
-    ∷ none_of behind why.Behind
-    ∷ none_of holder (λ held. why.Held held.0 held.1)
+-- what a Begin reads of the past
+pub record BeginReads : Type 0 where
+  -- the site to which the attempt is routed for a transaction
+  pub to : Option ℕ
+  -- whether the site is down
+  pub down : Bool
+  -- the least declared partition on which the site may not begin
+  pub elsewhere : Option ℕ
+  -- the site's vector
+  pub vector : List ℕ
+  -- the least component in which the Route's minimum is above the begin vector
+  pub behind : Option ℕ
+  -- the earliest begun attempt there that declares a common key, with the least such key
+  pub holder : Option (TxnId × ℕ)
+
+abbrev pub begin_row : BeginReads → ℕ → List ℕ → List Clause
+begin_row reads site begin =
+    holds (is_some reads.to) why.NotRouted
+    ∷ at_site reads.to site
+    ∷ holds (not reads.down) (why.Down site)
+    ∷ none_of reads.elsewhere why.Elsewhere
+    ∷ holds (same_numbers begin reads.vector) (why.WrongVector reads.vector)
+    ∷ none_of reads.behind why.Behind
+    ∷ none_of reads.holder (λ held. why.Held held.0 held.1)
     ∷ []
 
--- the first four as for a Begin
+-- the first three of what a Begin reads
 abbrev pub moved_row : Option ℕ → Bool → Option ℕ → ℕ → List Clause
 moved_row to down elsewhere site =
     holds (is_some to) why.NotRouted
@@ -76,17 +88,28 @@ moved_row to down elsewhere site =
     ∷ holds (is_some elsewhere) why.AllHere
     ∷ []
 
--- the site at which the attempt runs, the entry's number and begin vector that are due, the key of its first undeclared write,
--- and what its ops read and write
-abbrev pub commit_row : Option ℕ → ℕ → List ℕ → Option ℕ → Ran → Entry → List Clause
-commit_row runs due begin undeclared ran e =
-    holds (is_some runs) why.NotRunning
-    ∷ at_site runs e.origin
-    ∷ holds (e.seq == due) (why.NotDue due)
-    ∷ holds (same_numbers e.begin begin) (why.WrongVector begin)
-    ∷ none_of undeclared why.Undeclared
-    ∷ holds (same_pairs e.reads ran.reads && same_pairs e.writes ran.writes) why.WrongBody
-    ∷ holds (has_writes e.ops) why.NoWrites
+-- what a Commit reads of the past
+pub record CommitReads : Type 0 where
+  -- the site at which the attempt runs
+  pub runs : Option ℕ
+  -- the number that is due
+  pub due : ℕ
+  -- the vector from which the attempt runs
+  pub begin : List ℕ
+  -- the key of the first write that the attempt did not declare
+  pub undeclared : Option ℕ
+  -- what the ops read and write on the values at the begin vector
+  pub ran : Ran
+
+abbrev pub commit_row : CommitReads → Entry → List Clause
+commit_row reads entry =
+    holds (is_some reads.runs) why.NotRunning
+    ∷ at_site reads.runs entry.origin
+    ∷ holds (entry.seq == reads.due) (why.NotDue reads.due)
+    ∷ holds (same_numbers entry.begin reads.begin) (why.WrongVector reads.begin)
+    ∷ none_of reads.undeclared why.Undeclared
+    ∷ holds (same_pairs entry.reads reads.ran.reads && same_pairs entry.writes reads.ran.writes) why.WrongBody
+    ∷ holds (has_writes entry.ops) why.NoWrites
     ∷ []
 
 -- the site at which the attempt runs, and what its ops read

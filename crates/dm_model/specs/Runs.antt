@@ -20,7 +20,7 @@ runs_after i t s = None
 
 -- the attempt began at the site, and since then neither ended nor was the site in doubt or restarted
 abbrev pub runs : ℕ → TxnId → List Step → Bool
-runs i t past = unwrap_or (latest (runs_after i t) past) false
+runs site txn past = unwrap_or (latest (runs_after site txn) past) false
 
 abbrev pub begun_at : ℕ → Step → Option TxnId
 begun_at i (Begin site txn begin) = if site == i then Some txn else None
@@ -28,11 +28,11 @@ begun_at i s = None
 
 -- the attempts that run at the site, the earliest begun first
 abbrev pub running : ℕ → List Step → List TxnId
-running i past = filter (λ t. runs i t past) (reverse (filter_map (begun_at i) past))
+running site past = filter (λ txn. runs site txn past) (reverse (filter_map (begun_at site) past))
 
 -- the site at which the attempt runs
 abbrev pub run_site : Layout → List Step → TxnId → Option ℕ
-run_site layout past t = find (λ i. runs i t past) (sites_to layout.sites)
+run_site layout past txn = find (λ site. runs site txn past) (sites_to layout.sites)
 
 -- the vector of a Begin whose attempt passes
 abbrev pub begin_of : (TxnId → Bool) → Step → Option (List ℕ)
@@ -41,12 +41,12 @@ begin_of p s = None
 
 -- the attempt's begin vector
 abbrev pub begin_vector : TxnId → List Step → Option (List ℕ)
-begin_vector t past = latest (begin_of (same_txn t)) past
+begin_vector txn past = latest (begin_of (same_txn txn)) past
 
 -- the begin vector of an attempt that has begun
 abbrev pub began_at : TxnId → List Step → List ℕ
-began_at t past = unwrap_or (begin_vector t past) []
+began_at txn past = unwrap_or (begin_vector txn past) []
 
 -- the begin vector of the session's last Begin
 abbrev pub last_begin : ℕ → List Step → Option (List ℕ)
-last_begin c past = latest (begin_of (λ t. t.session == c)) past
+last_begin session past = latest (begin_of (λ txn. txn.session == session)) past

@@ -10,22 +10,22 @@ use Rattle.dm_model.specs.Acts.{entry_at}
 use Rattle.dm_model.specs.Runs.{last_begin}
 use Rattle.dm_model.specs.Sessions.{session_vector}
 
--- here and at each earlier place the session's vector is at most v
-abbrev pub SessionWithin : ℕ → ℕ → List ℕ → List Step → Type 0
-SessionWithin count c v [] = AtMost (session_vector count [] c) v
-SessionWithin count c v (s ∷ past) = AtMost (session_vector count (s ∷ past) c) v × SessionWithin count c v past
+-- here and at each earlier place the session's vector is at most this one
+abbrev pub SessionWithin : ℕ → List Step → ℕ → List ℕ → Type 0
+SessionWithin count [] session v = AtMost (session_vector count [] session) v
+SessionWithin count (step ∷ past) session v = AtMost (session_vector count (step ∷ past) session) v × SessionWithin count past session v
 
 -- a session that is answered as committed or read began there at no vector below what it was answered before
-abbrev pub AnswersUp : ℕ → Step → List Step → Type 0
-AnswersUp count (Reply c number (said.Committed site seq)) past =
-    (e : Entry) × (entry_at site seq past ≡ Some e) × SessionWithin count c e.begin past
-AnswersUp count (Reply c number (said.Read site)) past =
-    (begin : List ℕ) × (last_begin c past ≡ Some begin) × SessionWithin count c begin past
-AnswersUp count s past = Unit {0}
+abbrev pub AnswersUp : ℕ → List Step → Step → Type 0
+AnswersUp count past (Reply session number (said.Committed site seq)) =
+    (e : Entry) × (entry_at site seq past ≡ Some e) × SessionWithin count past session e.begin
+AnswersUp count past (Reply session number (said.Read site)) =
+    (begin : List ℕ) × (last_begin session past ≡ Some begin) × SessionWithin count past session begin
+AnswersUp count past step = Unit {0}
 
 abbrev pub SessionUpPast : Layout → List Step → Type 0
 SessionUpPast layout [] = Unit {0}
-SessionUpPast layout (s ∷ past) = AnswersUp layout.sites s past × SessionUpPast layout past
+SessionUpPast layout (step ∷ past) = AnswersUp layout.sites past step × SessionUpPast layout past
 
 -- every answer goes up
 abbrev pub SessionUp : Layout → List Step → Type 0

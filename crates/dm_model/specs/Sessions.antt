@@ -17,10 +17,11 @@ answered_by c (Reply session number (said.Committed site seq)) past =
 answered_by c (Reply session number (said.Read site)) past = if session == c then last_begin c past else None
 answered_by c s past = None
 
+-- the vectors that the session's Replies add, the latest first
 abbrev pub answered : ℕ → List Step → List (List ℕ)
-answered c [] = []
-answered c (s ∷ past) = cons_option (answered_by c s past) (answered c past)
+answered session [] = []
+answered session (step ∷ past) = cons_option (answered_by session step past) (answered session past)
 
 -- the maximum of what the session was answered
 abbrev pub session_vector : ℕ → List Step → ℕ → List ℕ
-session_vector count past c = join_all count (answered c past)
+session_vector count past session = join_all count (answered session past)

@@ -16,7 +16,7 @@ written (p ∷ ps) key = if p.key == key then Some p.value else written ps key
 -- what the latest writer of the key inside the vector wrote, of entries of which the latest stands first
 abbrev pub newest : List Entry → ℕ → List ℕ → Option ℤ
 newest [] key v = None
-newest (e ∷ es) key v = option_or (if is_inside v e then written e.writes key else None) (newest es key v)
+newest (entry ∷ more) key v = option_or (if is_inside v entry then written entry.writes key else None) (newest more key v)
 
 -- the key's value at the vector
 abbrev pub value : Layout → List Step → ℕ → List ℕ → ℤ

@@ -39,7 +39,7 @@ pub fn legal_histories()
 /// In every legal history a site can be restarted at its floor, and a site that is up may refresh exactly
 /// as long as it lacks an entry.
 pub fn refreshes_reach_full()
-    ensures floor_closed { (layout : Layout) (history : List Step) → Legal layout history → (site : ℕ) → Closed (reverse history) (floor layout.sites (reverse history) site) }
+    ensures floor_closed { (layout : Layout) (history : List Step) → Legal layout history → (site : ℕ) → Closed (floor layout.sites (reverse history) site) (reverse history) }
     ensures lagging_may { (layout : Layout) (history : List Step) → Legal layout history → (site : ℕ) → IsTrue (is_site layout site) → ¬ IsTrue (is_down site (reverse history))
         → site_vector layout.sites (reverse history) site ≢ full layout.sites (reverse history)
         → (origin : ℕ) × Allowed layout (reverse history) (Refresh site origin) }

@@ -43,7 +43,7 @@ pub(crate) fn stood_settled(
     epoch: u64,
 ) -> bool
     requires { part < length schema.now.masters }
-    ensures { result ≡ is_among (settled_epochs schema.now session part site (reverse steps.now)) epoch }
+    ensures { result ≡ is_among (settled_epochs schema.now (reverse steps.now) session part site) epoch }
 {
     let mut found = false;
     for i in 0..steps.len() {
@@ -66,7 +66,7 @@ pub(crate) fn last_settled(
     site: SiteNo,
 ) -> Option<u64>
     requires { part < length schema.now.masters }
-    ensures { result ≡ slice_get (settled_epochs schema.now session part site (reverse steps.now)) 0 }
+    ensures { result ≡ slice_get (settled_epochs schema.now (reverse steps.now) session part site) 0 }
 {
     let mut last = None;
     for i in 0..steps.len() {

@@ -1,5 +1,6 @@
 -- Searches from the front on.
-use Rattle.std.proofs.Common.{ℕ, suc, ◌+◌, ◌<◌, ◌≡◌, Bool, true, false, cond, List, [], ◌∷◌, ◌++◌, Option, Some, None, length, drop, get_or, refl, ap, sym, ◌∙◌, add-one}
+use Rattle.std.proofs.Common.{ℕ, suc, ◌+◌, ◌<◌, ◌≡◌, Bool, true, false, cond, List, [], ◌∷◌, ◌++◌, Option, Some, None, length, drop, get_or, refl, ap, sym, ◌∙◌}
+use Rattle.std.proofs.Common.{add-one}
 use Rattle.std.specs.Prelude.{reverse, find, filter, filter_map, option_map, option_and_then, ◌&&◌, ◌/◌, ◌==◌, ◌||◌}
 use Rattle.std.specs.List.{cons_option, list_any}
 use Rattle.std.specs.Option.{option_or}
@@ -22,7 +23,8 @@ pub rest_is : {X : Type 0} (xs : List X) (i : ℕ) (x : X) → i < length xs →
 rest_is {X = X} xs i x h e = drop-cons xs i x h ∙ ap (λ (y : X). y ∷ drop (suc i) xs) (sym e) ∙ ap (λ (n : ℕ). x ∷ drop n xs) (sym (add-one i))
 
 -- an element that doesn't pass is passed over
-pub find_on : {X : Type 0} (p : X → Bool) (xs : List X) (i : ℕ) (x : X) → i < length xs → x ≡ get_or xs i x → p x ≡ false → find p (drop (i + 1) xs) ≡ find p (drop i xs)
+pub find_on : {X : Type 0} (p : X → Bool) (xs : List X) (i : ℕ) (x : X) → i < length xs → x ≡ get_or xs i x → p x ≡ false
+    → find p (drop (i + 1) xs) ≡ find p (drop i xs)
 find_on {X = X} p xs i x h e f = sym (ap (λ (l : List X). find p l) (rest_is xs i x h e) ∙ cond-false (p x) _ _ f)
 
 pub find_here : {X : Type 0} (p : X → Bool) (xs : List X) (i : ℕ) (x : X) → i < length xs → x ≡ get_or xs i x → p x ≡ true → find p (drop i xs) ≡ Some x
@@ -53,26 +55,33 @@ module _ (site : ℕ) (keys : List ℕ) (past : List Step) where
   live steps = filter (λ t. runs site t past) (filter_map (begun_at site) steps)
 
   by_run : (t : TxnId) (ts : List TxnId) (b : Bool)
-      → holder_among past keys (cond b (t ∷ ts) ts) ≡ option_or (cond b (option_map (λ key. (t, key)) (common_key keys (declared t past))) None) (holder_among past keys ts)
+      → holder_among keys (cond b (t ∷ ts) ts) past ≡ option_or (cond b (option_map (λ key. (t, key)) (common_key keys (declared t past))) None)
+      (holder_among keys ts past)
   by_run t ts true = refl
   by_run t ts false = refl
 
   by_begin : (o : Option TxnId) (ts : List TxnId)
-      → holder_among past keys (filter (λ t. runs site t past) (cons_option o ts)) ≡ option_or (option_and_then (holds_one site keys past) o) (holder_among past keys (filter (λ t. runs site t past) ts))
+      → holder_among keys (filter (λ t. runs site t past) (cons_option o ts)) past ≡ option_or (option_and_then (holds_one site keys past) o)
+      (holder_among keys (filter (λ t. runs site t past) ts) past)
   by_begin None ts = refl
   by_begin (Some t) ts = by_run t (filter (λ u. runs site u past) ts) (runs site t past)
 
   -- the first step is looked at first
-  pub holder_first : (s : Step) (steps : List Step) → holder_among past keys (live (s ∷ steps)) ≡ option_or (held_by site keys past s) (holder_among past keys (live steps))
+  pub holder_first : (s : Step) (steps : List Step) → holder_among keys (live (s ∷ steps)) past ≡ option_or (held_by site keys past s)
+      (holder_among keys (live steps) past)
   holder_first s steps = by_begin (begun_at site s) (filter_map (begun_at site) steps)
 
 -- the holder is looked for from the earliest step on
-pub holder_of : (site : ℕ) (keys : List ℕ) (steps : List Step) → holder (reverse steps) site keys ≡ holder_among (reverse steps) keys (live site keys (reverse steps) steps)
-holder_of site keys steps = ap (λ (ts : List TxnId). holder_among (reverse steps) keys (filter (λ t. runs site t (reverse steps)) ts)) (map_reverse (begun_at site) steps)
+pub holder_of : (site : ℕ) (keys : List ℕ) (steps : List Step) → holder site keys (reverse steps) ≡ holder_among keys (live site keys (reverse steps) steps)
+    (reverse steps)
+holder_of site keys steps = ap (λ (ts : List TxnId). holder_among keys (filter (λ t. runs site t (reverse steps)) ts) (reverse steps))
+    (map_reverse (begun_at site) steps)
 
 pub holder_at : (site : ℕ) (keys : List ℕ) (past steps : List Step) (i : ℕ) (s : Step) → i < length steps → s ≡ get_or steps i s
-    → holder_among past keys (live site keys past (drop i steps)) ≡ option_or (held_by site keys past s) (holder_among past keys (live site keys past (drop (i + 1) steps)))
-holder_at site keys past steps i s h e = ap (λ (l : List Step). holder_among past keys (live site keys past l)) (rest_is steps i s h e) ∙ holder_first site keys past s (drop (i + 1) steps)
+    → holder_among keys (live site keys past (drop i steps)) past ≡ option_or (held_by site keys past s)
+    (holder_among keys (live site keys past (drop (i + 1) steps)) past)
+holder_at site keys past steps i s h e = ap (λ (l : List Step). holder_among keys (live site keys past l) past) (rest_is steps i s h e)
+    ∙ holder_first site keys past s (drop (i + 1) steps)
 
 -- ---- the attempt that runs on a partition
 
@@ -91,7 +100,8 @@ module _ (layout : Layout) (site part : ℕ) (past : List Step) where
   on_run t ts false c e = refl
 
   on_begin : (o : Option TxnId) (ts : List TxnId)
-      → find is_on (filter (λ t. runs site t past) (cons_option o ts)) ≡ option_or (option_and_then (runs_one layout site part past) o) (find is_on (filter (λ t. runs site t past) ts))
+      → find is_on (filter (λ t. runs site t past) (cons_option o ts)) ≡ option_or (option_and_then (runs_one layout site part past) o)
+      (find is_on (filter (λ t. runs site t past) ts))
   on_begin None ts = refl
   on_begin (Some t) ts = on_run t (filter (λ u. runs site u past) ts) (runs site t past) (is_on t) refl
 
@@ -105,7 +115,8 @@ runner_of layout site part steps =
 
 pub runner_at : (layout : Layout) (site part : ℕ) (past steps : List Step) (i : ℕ) (s : Step) → i < length steps → s ≡ get_or steps i s
     → on_part layout site part past (drop i steps) ≡ option_or (run_by layout site part past s) (on_part layout site part past (drop (i + 1) steps))
-runner_at layout site part past steps i s h e = ap (λ (l : List Step). on_part layout site part past l) (rest_is steps i s h e) ∙ on_first layout site part past s (drop (i + 1) steps)
+runner_at layout site part past steps i s h e = ap (λ (l : List Step). on_part layout site part past l) (rest_is steps i s h e)
+    ∙ on_first layout site part past s (drop (i + 1) steps)
 
 -- whether a key is of the partition, key by key
 pub any_part : (layout : Layout) (keys : List ℕ) (part : ℕ) → is_among (parts_in_order layout keys) part ≡ list_any (λ key. (key / layout.width) == part) keys

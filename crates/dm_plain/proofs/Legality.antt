@@ -1,5 +1,6 @@
 -- What legality says of the numbers in a list of steps.
-use Rattle.std.proofs.Common.{ℕ, ◌≤◌, ◌≡◌, ◌≢◌, Bool, true, false, cond, List, [], ◌∷◌, Option, Some, None, length, refl, ap, sym, ◌∙◌, arith, subst, eqb-true, eq-eqb}
+use Rattle.std.proofs.Common.{ℕ, ◌≤◌, ◌≡◌, ◌≢◌, Bool, true, false, cond, List, [], ◌∷◌, Option, Some, None, length, refl, ap, sym, ◌∙◌, arith, subst, eqb-true}
+use Rattle.std.proofs.Common.{eq-eqb}
 use Rattle.std.specs.Prelude.{nat_le, option_map, ◌==◌, ◌&&◌, if◌then◌else◌, is_some, unwrap_or, IfSome}
 use Rattle.std.specs.List.{AllByRecursion as Each, list_all}
 use Rattle.std.specs.Option.{option_or}
@@ -57,26 +58,30 @@ made_all layout (e ∷ es) g l =
 
 pub made_entry : (layout : Layout) (past : List Step) → LegalPast layout past → (j n : ℕ) (e : Entry) → entry_at j n past ≡ Some e → Made layout e
 made_entry layout past h j n e f =
-    found_each (Made layout) (λ d. (d.origin == j) && (d.seq == n)) (entries past) e f (made_all layout (entries past) (grounded_past layout past h) (sound_past layout past h).sized)
+    found_each (Made layout) (λ d. (d.origin == j) && (d.seq == n)) (entries past) e f
+    (made_all layout (entries past) (grounded_past layout past h) (sound_past layout past h).sized)
 
 pub long_commit : (layout : Layout) (e : Entry) → Made layout e → length (commit_vector e) ≡ layout.sites
 long_commit layout e m = long_raised e.begin e.origin e.seq ∙ m.long
 
 -- a site has no more of an origin than there is
-pub reached_few : (layout : Layout) (past : List Step) → LegalPast layout past → (i j : ℕ) → reached i past j ≤ length past
-reached_few layout past h i j = let one : reached i past j ≤ entry_count j past = ((sound_past layout past h).closed i).counted j in let two = few_entries j past in omega (arith, one, two)
+pub reached_few : (layout : Layout) (past : List Step) → LegalPast layout past → (i j : ℕ) → reached i j past ≤ length past
+reached_few layout past h i j = let one : reached i j past ≤ entry_count j past = ((sound_past layout past h).closed i).within j in let two = few_entries j past
+    in omega (arith, one, two)
 
 pub refreshed_few : (layout : Layout) (past : List Step) → LegalPast layout past → (i j : ℕ) → i ≢ j → refreshed i j past ≤ length past
 refreshed_few layout past h i j n = subst (λ (k : ℕ). k ≤ length past) (cond-false (i == j) _ _ (ne_eqb i j n)) (reached_few layout past h i j)
 
 -- ---- Begins
 
-by_begin : (b : Bool) (x y : List ℕ) (o : Option (List ℕ)) (count : ℕ) → length x ≡ count → (o ≡ Some y → length y ≡ count) → option_or (cond b (Some x) None) o ≡ Some y → length y ≡ count
+by_begin : (b : Bool) (x y : List ℕ) (o : Option (List ℕ)) (count : ℕ) → length x ≡ count → (o ≡ Some y → length y ≡ count)
+    → option_or (cond b (Some x) None) o ≡ Some y → length y ≡ count
 by_begin true x y o count l f e = let same : x ≡ y = cc (e) in ap (λ (v : List ℕ). length v) (sym same) ∙ l
 by_begin false x y o count l f e = f e
 
 -- a begin vector has a component for each site
-pub long_begin : (layout : Layout) (p : TxnId → Bool) (past : List Step) → LegalPast layout past → (v : List ℕ) → latest (begin_of p) past ≡ Some v → length v ≡ layout.sites
+pub long_begin : (layout : Layout) (p : TxnId → Bool) (past : List Step) → LegalPast layout past → (v : List ℕ) → latest (begin_of p) past ≡ Some v
+    → length v ≡ layout.sites
 long_begin layout p [] h v e = absurd (cc (e))
 long_begin layout p (Begin site txn begin ∷ past) h v e =
     by_begin (p txn) begin v (latest (begin_of p) past) layout.sites
@@ -103,17 +108,23 @@ pub record Fitting (layout : Layout) (r : Routing) : Type 0 where
   pub wants : is_want layout r.want ≡ true
   pub long : length r.min ≡ layout.sites
 
-by_route : (layout : Layout) (b : Bool) (x y : Routing) (o : Option Routing) → Fitting layout x → (o ≡ Some y → Fitting layout y) → option_or (cond b (Some x) None) o ≡ Some y → Fitting layout y
+by_route : (layout : Layout) (b : Bool) (x y : Routing) (o : Option Routing) → Fitting layout x → (o ≡ Some y → Fitting layout y)
+    → option_or (cond b (Some x) None) o ≡ Some y → Fitting layout y
 by_route layout true x y o l f e = let same : x ≡ y = cc (e) in subst (Fitting layout) same l
 by_route layout false x y o l f e = f e
 
-pub fitting_route : (layout : Layout) (p : TxnId → Bool) (past : List Step) → LegalPast layout past → (r : Routing) → latest (routing_of p) past ≡ Some r → Fitting layout r
+pub fitting_route : (layout : Layout) (p : TxnId → Bool) (past : List Step) → LegalPast layout past → (r : Routing) → latest (routing_of p) past ≡ Some r
+    → Fitting layout r
 fitting_route layout p [] h r e = absurd (cc (e))
 fitting_route layout p (Route txn want min site choice ∷ past) h r e =
     let shape = (and_parts _ _ (shape_of layout past (Route txn want min site choice) h.1)).1 in
     let more = (and_parts (is_want layout want) _ shape).1 in
     by_route layout (p txn) (record { txn = txn; want = want; min = min; site = site; choice = choice }) r (latest (routing_of p) past)
-    (record { wants = (and_parts (is_want layout want) _ shape).0; long = eqb-true (length min) layout.sites (and_parts (length min == layout.sites) _ more).0 })
+    (record {
+      wants = (and_parts (is_want layout want) _ shape).0;
+      long =
+          eqb-true (length min) layout.sites (and_parts (length min == layout.sites) _ more).0;
+    })
     (λ f. fitting_route layout p past h.0 r f) e
 fitting_route layout p (Begin site txn begin ∷ past) h r e = fitting_route layout p past h.0 r e
 fitting_route layout p (Reply session number said ∷ past) h r e = fitting_route layout p past h.0 r e
@@ -129,7 +140,8 @@ fitting_route layout p (Grant site part epoch vector ∷ past) h r e = fitting_r
 fitting_route layout p (Doubt site q ∷ past) h r e = fitting_route layout p past h.0 r e
 fitting_route layout p (Restart site vector found ∷ past) h r e = fitting_route layout p past h.0 r e
 
-pub wanted_fits : (layout : Layout) (c : ℕ) (past : List Step) → LegalPast layout past → (w : Want) → option_map (λ r. r.want) (last_routing c past) ≡ Some w → is_want layout w ≡ true
+pub wanted_fits : (layout : Layout) (c : ℕ) (past : List Step) → LegalPast layout past → (w : Want) → option_map (λ r. r.want) (last_routing c past) ≡ Some w
+    → is_want layout w ≡ true
 wanted_fits layout c past h w e = by_last (last_routing c past) refl e
   where
     by_last : (o : Option Routing) → last_routing c past ≡ o → option_map (λ r. r.want) o ≡ Some w → is_want layout w ≡ true
@@ -142,7 +154,8 @@ none_either : (b : Bool) → ◌≡◌ {A = Option (List ℕ)} None (if b then N
 none_either true = refl
 none_either false = refl
 
-by_said : (c session number : ℕ) (said : Said) (past : List Step) → answered_by c (Reply session number said) past ≡ (if session == c then said_vector c said past else None)
+by_said : (c session number : ℕ) (said : Said) (past : List Step) → answered_by c (Reply session number said) past ≡ (if session == c
+    then said_vector c said past else None)
 by_said c session number (said.Committed site seq) past = refl
 by_said c session number (said.Read site) past = refl
 by_said c session number (said.InDoubt site) past = none_either (session == c)
@@ -151,11 +164,13 @@ by_said c session number (said.Restarted site) past = none_either (session == c)
 by_said c session number (said.Refused why) past = none_either (session == c)
 
 -- a Reply adds what its outcome adds to its own session
-pub answered_own : (c : ℕ) (s : Step) (past : List Step) (session number : ℕ) (said : Said) → s ≡ Reply session number said → session ≡ c → said_vector c said past ≡ answered_by c s past
+pub answered_own : (c : ℕ) (s : Step) (past : List Step) (session number : ℕ) (said : Said) → s ≡ Reply session number said → session ≡ c
+    → said_vector c said past ≡ answered_by c s past
 answered_own c s past session number said e f =
     sym (cond-true (session == c) _ _ (eq-eqb session c f)) ∙ sym (by_said c session number said past) ∙ ap (λ (t : Step). answered_by c t past) (sym e)
 
-pub answered_other : (c : ℕ) (s : Step) (past : List Step) (session number : ℕ) (said : Said) → s ≡ Reply session number said → (session ≡ c → ⊥) → None ≡ answered_by c s past
+pub answered_other : (c : ℕ) (s : Step) (past : List Step) (session number : ℕ) (said : Said) → s ≡ Reply session number said → (session ≡ c → ⊥)
+    → None ≡ answered_by c s past
 answered_other c s past session number said e f =
     sym (cond-false (session == c) _ _ (ne_eqb session c f)) ∙ sym (by_said c session number said past) ∙ ap (λ (t : Step). answered_by c t past) (sym e)
 
@@ -166,7 +181,8 @@ some_is None h = absurd (cc (h))
 some_is (Some x) h = (x, refl)
 
 -- an attempt that runs has begun
-pub runner_began : (layout : Layout) (past : List Step) → LegalPast layout past → (t : TxnId) → is_some (run_site layout past t) ≡ true → is_some (begin_vector t past) ≡ true
+pub runner_began : (layout : Layout) (past : List Step) → LegalPast layout past → (t : TxnId) → is_some (run_site layout past t) ≡ true
+    → is_some (begin_vector t past) ≡ true
 runner_began layout past h t r =
     let at = some_is (run_site layout past t) r in
     let b = (sound_past layout past h).running at.0 t (found_holds (λ i. runs i t past) (sites_to layout.sites) at.0 at.1) in
@@ -178,7 +194,8 @@ unbegun_idle layout past h t e = by_site (run_site layout past t) refl
   where
     by_site : (o : Option ℕ) → run_site layout past t ≡ o → run_site layout past t ≡ None
     by_site None f = f
-    by_site (Some i) f = absurd (both_ways false refl (sym (ap (λ (o : Option (List ℕ)). is_some o) e) ∙ runner_began layout past h t (ap (λ (o : Option ℕ). is_some o) f)))
+    by_site (Some i) f = absurd (both_ways false refl (sym (ap (λ (o : Option (List ℕ)). is_some o) e) ∙ runner_began layout past h t
+        (ap (λ (o : Option ℕ). is_some o) f)))
 
 -- the keys that an attempt declares are in range
 pub declared_in : (layout : Layout) (past : List Step) → LegalPast layout past → (t : TxnId) → list_all (is_key layout) (declared t past) ≡ true
@@ -198,14 +215,17 @@ declared_in layout past h t = by_route (routing t past) refl
 by_doubt : (layout : Layout) (site i : ℕ) (q p : Pending) (o : Option Pending) (b : Bool) → (b ≡ true → i ≡ site) → is_shaped layout (Doubt i q) ≡ true
     → (o ≡ Some p → is_shaped layout (Doubt site p) ≡ true) → option_or (cond b (Some q) None) o ≡ Some p → is_shaped layout (Doubt site p) ≡ true
 by_doubt layout site i q p o true e s f h =
-    let same : q ≡ p = cc (h) in subst (λ (j : ℕ). is_shaped layout (Doubt j p) ≡ true) (e refl) (subst (λ (r : Pending). is_shaped layout (Doubt i r) ≡ true) same s)
+    let same : q ≡ p = cc (h) in subst (λ (j : ℕ). is_shaped layout (Doubt j p) ≡ true) (e refl)
+    (subst (λ (r : Pending). is_shaped layout (Doubt i r) ≡ true) same s)
 by_doubt layout site i q p o false e s f h = f h
 
 -- the pending step of a site has its shape
-shaped_pending : (layout : Layout) (site : ℕ) (past : List Step) → LegalPast layout past → (p : Pending) → pending_at site past ≡ Some p → is_shaped layout (Doubt site p) ≡ true
+shaped_pending : (layout : Layout) (site : ℕ) (past : List Step) → LegalPast layout past → (p : Pending) → pending_at site past ≡ Some p
+    → is_shaped layout (Doubt site p) ≡ true
 shaped_pending layout site [] h p e = absurd (cc (e))
 shaped_pending layout site (Doubt i q ∷ past) h p e =
-    by_doubt layout site i q p (pending_at site past) (i == site) (eqb-true i site) (shape_of layout past (Doubt i q) h.1) (λ f. shaped_pending layout site past h.0 p f) e
+    by_doubt layout site i q p (pending_at site past) (i == site) (eqb-true i site) (shape_of layout past (Doubt i q) h.1)
+    (λ f. shaped_pending layout site past h.0 p f) e
 shaped_pending layout site (Route txn want min at choice ∷ past) h p e = shaped_pending layout site past h.0 p e
 shaped_pending layout site (Reply session number said ∷ past) h p e = shaped_pending layout site past h.0 p e
 shaped_pending layout site (Ask part epoch to txn ∷ past) h p e = shaped_pending layout site past h.0 p e
@@ -220,7 +240,8 @@ shaped_pending layout site (Release at part epoch to vector ∷ past) h p e = sh
 shaped_pending layout site (Grant at part epoch vector ∷ past) h p e = shaped_pending layout site past h.0 p e
 shaped_pending layout site (Restart at vector found ∷ past) h p e = shaped_pending layout site past h.0 p e
 
-pub pending_shaped : (layout : Layout) (site : ℕ) (past : List Step) → LegalPast layout past → IfSome (pending_at site past) (λ p. is_shaped layout (Doubt site p) ≡ true)
+pub pending_shaped : (layout : Layout) (site : ℕ) (past : List Step) → LegalPast layout past
+    → IfSome (pending_at site past) (λ p. is_shaped layout (Doubt site p) ≡ true)
 pending_shaped layout site past h = by_last (pending_at site past) refl
   where
     by_last : (o : Option Pending) → pending_at site past ≡ o → IfSome o (λ p. is_shaped layout (Doubt site p) ≡ true)

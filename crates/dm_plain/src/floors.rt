@@ -3,7 +3,7 @@
 ghost use Rattle.std.specs.Prelude.{◌≡◌, true, length, reverse, option_copied, option_map, IfSome};
 ghost use Rattle.dm_event.specs.declared.step.Step.TheVariants.{Commit, Doubt};
 ghost use Rattle.dm_model.specs.Acts.{entries};
-ghost use Rattle.dm_model.specs.Allowed.{Allowed, past_with};
+ghost use Rattle.dm_model.specs.Allowed.{Allowed, with_kept};
 ghost use Rattle.dm_model.specs.Closed.{unclosed};
 ghost use Rattle.dm_model.specs.Floors.{floor_vector, floor};
 ghost use Rattle.dm_model.specs.Legal.{Legal};
@@ -112,7 +112,7 @@ fn unclosed(schema: &Schema, steps: &[Step], vector: &Vector) -> Option<(SiteNo,
 
 /// The number of the site's transactions, with a kept one counted.
 pub fn counted(steps: &[Step], site: SiteNo, found: Found) -> u64
-    ensures { result ≡ entry_count site (past_with site found (reverse steps.now)) }
+    ensures { result ≡ entry_count site (with_kept site found (reverse steps.now)) }
 {
     entry_count(steps, site) + is_of(kept_entry(found, pending_at(steps, site)), site)
 }
@@ -120,7 +120,7 @@ pub fn counted(steps: &[Step], site: SiteNo, found: Found) -> u64
 /// The site's floor, with a kept step counted.
 pub fn counted_floor(schema: &Schema, steps: &[Step], site: SiteNo, found: Found) -> Vector
     requires { Legal schema.now steps.now }
-    ensures { result ≡ floor schema.now.sites (past_with site found (reverse steps.now)) site }
+    ensures { result ≡ floor schema.now.sites (with_kept site found (reverse steps.now)) site }
 {
     join_one(
         floor(schema, steps, site),
@@ -136,7 +136,7 @@ pub fn counted_unclosed(
     vector: &Vector,
     found: Found,
 ) -> Option<(SiteNo, u64)>
-    ensures { result ≡ option_map (λ e. (e.origin, e.seq)) (unclosed schema.now.sites vector.now (reverse (entries (past_with site found (reverse steps.now))))) }
+    ensures { result ≡ option_map (λ e. (e.origin, e.seq)) (unclosed schema.now.sites vector.now (reverse (entries (with_kept site found (reverse steps.now))))) }
 {
     let entry = kept_entry(found, pending_at(steps, site));
     unclosed(schema, steps, vector).or(unclosed_one(schema, vector, entry))

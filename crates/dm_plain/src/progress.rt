@@ -86,7 +86,7 @@ fn component(vector: Option<Vector>, site: SiteNo) -> u64
 /// How many transactions of the origin the site has.
 pub fn reached(schema: &Schema, steps: &[Step], site: SiteNo, origin: SiteNo) -> u64
     requires { Legal schema.now steps.now }
-    ensures exact { result ≡ reached site (reverse steps.now) origin }
+    ensures exact { result ≡ reached site origin (reverse steps.now) }
     ensures few { result ≤ length steps.now }
     ensures memory { length steps.now < 2 ^ 63 }
 {

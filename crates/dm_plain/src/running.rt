@@ -133,7 +133,7 @@ fn held(steps: &[Step], step: &Step, site: SiteNo, keys: &[Key]) -> Option<(TxnI
 /// The earliest begun attempt that runs at the site and declares one of the keys, with the first such
 /// key.
 pub fn holder(steps: &[Step], site: SiteNo, keys: &[Key]) -> Option<(TxnId, Key)>
-    ensures { result ≡ holder (reverse steps.now) site keys.now }
+    ensures { result ≡ holder site keys.now (reverse steps.now) }
 {
     for step in steps {
         if let Some(found) = held(steps, step, site, keys) {

@@ -25,7 +25,8 @@ front : {X : Type 0} (n m : ℕ) (xs : List X) → length xs ≡ m → n ≤ m �
 front n m xs e h = length-take-le n xs (omega (arith, e, h))
 
 -- the homes of the partitions are sites
-homes_fit : (layout : Layout) (past : List Step) (hs : List ℕ) (n s : ℕ) → LegalPast layout past → list_all (is_between 1 layout.sites) layout.masters ≡ true → length hs ≡ 256
+homes_fit : (layout : Layout) (past : List Step) (hs : List ℕ) (n s : ℕ) → LegalPast layout past → list_all (is_between 1 layout.sites) layout.masters ≡ true
+    → length hs ≡ 256
     → n ≡ length layout.masters → n ≤ 256 → s ≡ layout.sites → ((p : ℕ) → p < length layout.masters → slice_index hs p ≡ home layout past p)
     → (k d : ℕ) → k < length (take n hs) → (1 ≤ get_or (take n hs) k d) × (get_or (take n hs) k d ≤ s)
 homes_fit layout past hs n s h m e f few g each k d l =
@@ -48,17 +49,21 @@ choose-requires-clause-components c k d l =
     let own = c.vectors-vectors.ensures.each (suc k) (omega arith) (omega (arith, few, c.sites.ensures.same)) in
     let place : get_or vs k d ≡ get_or vs k [] = get_any vs k d [] (omega (arith, few, c.sites.ensures.limits.1, c.vectors-vectors.ensures.long)) in
     let shift : k ≡ suc k - 1 = omega arith in
-    ap (λ (v : List ℕ). length v) (here ∙ place ∙ ap (λ (i : ℕ). get_or vs i []) shift ∙ own) ∙ long_by sites (reached (suc k) (reverse c.args.steps.now)) ∙ sym c.sites.ensures.same ∙ sym long
+    ap (λ (v : List ℕ). length v) (here ∙ place ∙ ap (λ (i : ℕ). get_or vs i []) shift ∙ own)
+    ∙ long_by sites (λ j. reached (suc k) j (reverse c.args.steps.now)) ∙ sym c.sites.ensures.same ∙ sym long
 
 pub choose-requires-clause-homes : goal.choose-requires-clause-homes
 choose-requires-clause-homes c =
-    homes_fit c.args.schema.now (reverse c.args.steps.now) c.homes-homes.result c.parts.result (length (take c.sites.result c.vectors-vectors.result)) c.requires.legal c.parts.ensures.masters
+    homes_fit c.args.schema.now (reverse c.args.steps.now) c.homes-homes.result c.parts.result (length (take c.sites.result c.vectors-vectors.result))
+    c.requires.legal c.parts.ensures.masters
     c.homes-homes.ensures.long c.parts.ensures.same (c.parts.ensures.limits.1)
-    (front c.sites.result 8 c.vectors-vectors.result c.vectors-vectors.ensures.long (c.sites.ensures.limits.1) ∙ c.sites.ensures.same) c.homes-homes.ensures.each
+    (front c.sites.result 8 c.vectors-vectors.result c.vectors-vectors.ensures.long (c.sites.ensures.limits.1) ∙ c.sites.ensures.same)
+    c.homes-homes.ensures.each
 
 pub choose-requires-clause-wanted_homes : goal.choose-requires-clause-wanted_homes
 choose-requires-clause-wanted_homes c p t =
-    let long : length (take c.parts.result c.homes-homes.result) ≡ c.parts.result = front c.parts.result 256 c.homes-homes.result c.homes-homes.ensures.long (c.parts.ensures.limits.1) in
+    let long : length (take c.parts.result c.homes-homes.result) ≡ c.parts.result =
+    front c.parts.result 256 c.homes-homes.result c.homes-homes.ensures.long (c.parts.ensures.limits.1) in
     let below = c.parts_of.ensures.within p t in
     omega (arith, below, long, c.parts.ensures.same)
 
@@ -75,12 +80,15 @@ returns c =
       parts = long ∙ c.parts.ensures.same;
       home_of = λ p l. get_or-take c.parts.result c.homes-homes.result p 0 (omega (arith, l, c.parts.ensures.same)) ∙ c.homes-homes.ensures.each p l;
       sites = most ∙ c.sites.ensures.same;
-      vector_of = λ site lo hi. get_or-take c.sites.result c.vectors-vectors.result (site - 1) [] (omega (arith, lo, hi, c.sites.ensures.same)) ∙ c.vectors-vectors.ensures.each site lo hi;
+      vector_of = λ site lo hi. get_or-take c.sites.result c.vectors-vectors.result (site - 1) [] (omega (arith, lo, hi, c.sites.ensures.same))
+          ∙ c.vectors-vectors.ensures.each site lo hi;
     } in
     c.choose.ensures.due
     ∙ ap (λ (w : Weights). choice_in w c.args.window.now hs vs c.parts_of.result) c.weights.ensures
     ∙ c.choices_due.ensures.choice layout past c.args.window.now hs vs c.parts_of.result (parts_of layout c.args.keys.now) c.requires.legal tells
-    (homes_fit layout past c.homes-homes.result c.parts.result (length vs) c.requires.legal c.parts.ensures.masters c.homes-homes.ensures.long c.parts.ensures.same (c.parts.ensures.limits.1)
+    (homes_fit layout past c.homes-homes.result c.parts.result (length vs) c.requires.legal c.parts.ensures.masters c.homes-homes.ensures.long
+    c.parts.ensures.same (c.parts.ensures.limits.1)
     (most ∙ c.sites.ensures.same) c.homes-homes.ensures.each)
     (λ p t. let below = c.parts_of.ensures.within p t in omega (arith, below, long, c.parts.ensures.same))
-    (c.choices_due.ensures.listed layout c.args.keys.now c.parts_of.result c.parts_of.ensures.members) (omega (arith, c.sites.ensures.same, c.sites.ensures.limits.0))
+    (c.choices_due.ensures.listed layout c.args.keys.now c.parts_of.result c.parts_of.ensures.members)
+    (omega (arith, c.sites.ensures.same, c.sites.ensures.limits.0))

@@ -4,8 +4,8 @@ use Rattle.dm_model.specs.Bodies.{ran_at}
 use Rattle.dm_plain.proofs.Legality.{runner_began}
 use Rattle.dm_clauses.proofs.judging.commit_why.Goals as goal
 
-pub overflow_add-entry_count : goal.overflow_add-entry_count
-overflow_add-entry_count c = omega (arith, c.entry_count.ensures.few, c.entry_count.ensures.memory)
+pub overflow_add-reads : goal.overflow_add-reads
+overflow_add-reads c = omega (arith, c.entry_count.ensures.few, c.entry_count.ensures.memory)
 
 pub commit_refusal-requires-clause-begun : goal.commit_refusal-requires-clause-begun
 commit_refusal-requires-clause-begun c h =
@@ -16,4 +16,4 @@ pub returns : goal.returns
 returns c =
     rw (c.run_site.ensures, c.entry_count.ensures.exact, c.begin_vector.ensures, c.undeclared_in.ensures, c.declared.ensures, c.as_slice-ops.ensures) at
     (c.commit_refusal.ensures (ran_at c.args.schema.now (reverse c.args.steps.now) c.args.entry.now.begin c.args.entry.now.ops)
-    (rw (c.as_slice-ops.ensures, c.as_slice.ensures, c.as_slice-2.ensures) at c.body_fits-fits.ensures.fits))
+    (rw (c.as_slice-ops.ensures, c.as_slice.ensures, c.as_slice-2.ensures) at c.body_fits.ensures.fits))

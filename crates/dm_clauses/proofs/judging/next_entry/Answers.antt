@@ -13,4 +13,4 @@ returns c =
     let origin = c.args.origin in
     let r = and_parts (nat_le 1 origin) (nat_le origin sites) c.requires.origin in
     c.entry_at.ensures ∙ ap (λ (n : ℕ). entry_at origin (n + 1) past)
-    (c.reached.ensures.exact ∙ sym (at_by sites (reached c.args.site past) origin (leb-true 1 origin r.0) (leb-true origin sites r.1)))
+    (c.reached.ensures.exact ∙ sym (at_by sites (λ j. reached c.args.site j past) origin (leb-true 1 origin r.0) (leb-true origin sites r.1)))

@@ -10,6 +10,6 @@ set-requires c =
     let sites = c.args.schema.now.sites in
     let site = c.args.site in
     let r = and_parts (nat_le 1 site) (nat_le site sites) c.requires.site in
-    let long = ap (λ (v : List ℕ). length v) c.site_vector-vector.ensures ∙ long_by sites (reached site (reverse c.args.steps.now)) in
+    let long = ap (λ (v : List ℕ). length v) c.site_vector-vector.ensures ∙ long_by sites (λ j. reached site j (reverse c.args.steps.now)) in
     let top = leb-true site sites r.1 in
     (leb-true 1 site r.0, omega (arith, top, long))

@@ -4,4 +4,4 @@ use Rattle.dm_model.specs.Outcomes.{settled_epochs}
 use Rattle.dm_outcomes.proofs.since.last_settled.Given as goal
 
 abbrev pub invariant-loop-i : goal.invariant-loop-i
-invariant-loop-i l = l.last ≡ slice_get (settled_epochs l.schema l.session l.part l.site (reverse (take l.i l.steps))) 0
+invariant-loop-i l = l.last ≡ slice_get (settled_epochs l.schema (reverse (take l.i l.steps)) l.session l.part l.site) 0

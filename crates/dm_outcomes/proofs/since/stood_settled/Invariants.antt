@@ -5,4 +5,4 @@ use Rattle.dm_model.specs.Tests.{is_among}
 use Rattle.dm_outcomes.proofs.since.stood_settled.Given as goal
 
 abbrev pub invariant-loop-i : goal.invariant-loop-i
-invariant-loop-i l = l.found ≡ is_among (settled_epochs l.schema l.session l.part l.site (reverse (take l.i l.steps))) l.epoch
+invariant-loop-i l = l.found ≡ is_among (settled_epochs l.schema (reverse (take l.i l.steps)) l.session l.part l.site) l.epoch

@@ -11,18 +11,25 @@ use Rattle.dm_plain.proofs.running.holder.Goals as goal
 pub returns-in-Some : goal.returns-in-Some
 returns-in-Some c =
     sym (holder_of c.args.site c.args.keys.now c.args.steps.now ∙ sym c.loop-step.invariant
-    ∙ holder_at c.args.site c.args.keys.now (reverse c.args.steps.now) c.args.steps.now c.loop-step.step-index c.step-item.result c.loop-step-test.true c.step-item.is
-    ∙ ap (λ (o : Option (TxnId × ℕ)). option_or o (holder_among (reverse c.args.steps.now) c.args.keys.now (live c.args.site c.args.keys.now (reverse c.args.steps.now) (drop (c.loop-step.step-index + 1) c.args.steps.now))))
+    ∙ holder_at c.args.site c.args.keys.now (reverse c.args.steps.now) c.args.steps.now c.loop-step.step-index c.step-item.result c.loop-step-test.true
+    c.step-item.is
+    ∙ ap (λ (o : Option (TxnId × ℕ)). option_or o
+    (holder_among c.args.keys.now (live c.args.site c.args.keys.now (reverse c.args.steps.now) (drop (c.loop-step.step-index + 1) c.args.steps.now))
+    (reverse c.args.steps.now)))
     (sym c.held.ensures ∙ c.in-Some.is))
 
 pub loop-step-preserved : goal.loop-step-preserved
 loop-step-preserved c =
-    sym (holder_at c.args.site c.args.keys.now (reverse c.args.steps.now) c.args.steps.now c.loop-step.step-index c.step-item.result c.loop-step-test.true c.step-item.is
-    ∙ ap (λ (o : Option (TxnId × ℕ)). option_or o (holder_among (reverse c.args.steps.now) c.args.keys.now (live c.args.site c.args.keys.now (reverse c.args.steps.now) (drop (c.loop-step.step-index + 1) c.args.steps.now))))
+    sym (holder_at c.args.site c.args.keys.now (reverse c.args.steps.now) c.args.steps.now c.loop-step.step-index c.step-item.result c.loop-step-test.true
+    c.step-item.is
+    ∙ ap (λ (o : Option (TxnId × ℕ)). option_or o
+    (holder_among c.args.keys.now (live c.args.site c.args.keys.now (reverse c.args.steps.now) (drop (c.loop-step.step-index + 1) c.args.steps.now))
+    (reverse c.args.steps.now)))
     (sym c.held.ensures ∙ c.in_default.is))
     ∙ c.loop-step.invariant
 
 pub returns : goal.returns
 returns c =
     sym (holder_of c.args.site c.args.keys.now c.args.steps.now ∙ sym c.loop-step.invariant
-    ∙ ap (λ (l : List Step). holder_among (reverse c.args.steps.now) c.args.keys.now (live c.args.site c.args.keys.now (reverse c.args.steps.now) l)) (drop_all c.args.steps.now c.loop-step.step-index c.loop-step-test.false))
+    ∙ ap (λ (l : List Step). holder_among c.args.keys.now (live c.args.site c.args.keys.now (reverse c.args.steps.now) l) (reverse c.args.steps.now))
+    (drop_all c.args.steps.now c.loop-step.step-index c.loop-step-test.false))
