@@ -5,11 +5,10 @@ use Rattle.std.specs.List.{list_all}
 use Rattle.std.specs.Option.{option_or}
 use Rattle.std.proofs.lemmas.Bool.{and_parts, cond-true}
 use Rattle.std.proofs.lemmas.Grind.{get_or_default_zero}
-use Rattle.dm_event.specs.Layout.{Layout, part_of, key_count}
+use Rattle.dm_event.specs.Layout.{Layout, part_of, key_count, is_key}
 use Rattle.dm_event.specs.declared.step.Step.{Step}
 use Rattle.dm_model.specs.Choices.{parts_in_order}
 use Rattle.dm_model.specs.Placings.{placing, may_begin_now}
-use Rattle.dm_model.specs.Shape.{is_key}
 use Rattle.dm_clauses.specs.Judging.{away}
 use Rattle.dm_plain.proofs.Finding.{rest_is}
 

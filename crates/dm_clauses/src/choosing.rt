@@ -2,6 +2,7 @@
 
 ghost use Rattle.std.specs.Prelude.{ℕ, ◌≡◌, ◌==◌, ◌<◌, ◌≤◌, true, length, reverse, slice_index, List};
 ghost use Rattle.std.specs.List.{list_all};
+ghost use Rattle.dm_event.specs.Layout.{is_key, is_site};
 ghost use Rattle.dm_event.specs.Parts.{has_part};
 ghost use Rattle.dm_event.specs.Vectors.{is_at_most};
 ghost use Rattle.dm_model.specs.Choices.{choice_due, choose, home, parts_in_order, parts_of, reader_site, settled_site, window as window_of, writer_choice};
@@ -9,7 +10,6 @@ ghost use Rattle.dm_model.specs.Legal.{Legal};
 ghost use Rattle.dm_model.specs.Placings.{placing, settled_at};
 ghost use Rattle.dm_model.specs.Progress.{site_vector};
 ghost use Rattle.dm_model.specs.Sessions.{session_vector};
-ghost use Rattle.dm_model.specs.Shape.{is_key, is_site};
 ghost use Rattle.dm_model.specs.Tests.{is_among};
 ghost use Rattle.dm_placement.specs.Scored.{vector_in};
 ghost use Rattle.dm_placement.specs.Tells.{AreSetsOf};

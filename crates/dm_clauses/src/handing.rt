@@ -3,13 +3,13 @@
 ghost use Rattle.std.specs.Prelude.{◌≡◌, ◌<◌, ◌^◌, ◌==◌, ◌&&◌, ◌/◌, true, false, find, reverse};
 ghost use Rattle.std.specs.List.{list_any};
 ghost use Rattle.std.specs.Option.{option_map_or};
+ghost use Rattle.dm_event.specs.Layout.{is_part};
 ghost use Rattle.dm_model.specs.Allowed.{wants_part, ask_clauses, release_clauses, grant_clauses, settle_clauses, runner};
 ghost use Rattle.dm_model.specs.Attempts.{routed};
 ghost use Rattle.dm_model.specs.Choices.{parts_in_order};
 ghost use Rattle.dm_model.specs.Clauses.{first};
 ghost use Rattle.dm_model.specs.Legal.{Legal};
 ghost use Rattle.dm_model.specs.Placings.{placing};
-ghost use Rattle.dm_model.specs.Shape.{is_part};
 ghost use Rattle.dm_model.specs.Tests.{is_among, same_choice};
 ghost use Rattle.dm_clauses.specs.Judging.{epoch_now};
 

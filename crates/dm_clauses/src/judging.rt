@@ -2,6 +2,7 @@
 
 ghost use Rattle.std.specs.Prelude.{◌≡◌, ◌<◌, ◌≤◌, ◌+◌, reverse, option_map, option_and_then, option_copied, is_none, true, not, find};
 ghost use Rattle.std.specs.List.{list_all};
+ghost use Rattle.dm_event.specs.Layout.{is_key, is_site};
 ghost use Rattle.dm_event.specs.declared.step.Step.TheVariants.{Doubt, Refresh, Route};
 ghost use Rattle.dm_event.specs.Vectors.{first_above};
 ghost use Rattle.dm_model.specs.Allowed.{elsewhere, missing_for, next_entry, route_clauses, reply_clauses, begin_clauses, moved_clauses, commit_clauses, end_clauses, fail_clauses, refresh_clauses, clauses, next_refresh, refusal};
@@ -9,7 +10,7 @@ ghost use Rattle.dm_model.specs.Attempts.{routed_txn};
 ghost use Rattle.dm_model.specs.Choices.{due_for, window as window_of};
 ghost use Rattle.dm_model.specs.Clauses.{first};
 ghost use Rattle.dm_model.specs.Legal.{Legal};
-ghost use Rattle.dm_model.specs.Shape.{is_key, is_said, is_site, is_want, is_shaped};
+ghost use Rattle.dm_model.specs.Shape.{is_said, is_want, is_shaped};
 ghost use Rattle.dm_placement.specs.Tells.{AreSetsOf};
 ghost use Rattle.dm_clauses.specs.Judging.{away};
 

@@ -1,12 +1,12 @@
 //! Whether a site may restart so, and why not.
 
 ghost use Rattle.std.specs.Prelude.{◌≡◌, true, reverse};
+ghost use Rattle.dm_event.specs.Layout.{is_site};
 ghost use Rattle.dm_event.specs.Vectors.{raised};
 ghost use Rattle.dm_model.specs.Allowed.{restart_clauses};
 ghost use Rattle.dm_model.specs.Clauses.{first};
 ghost use Rattle.dm_model.specs.Legal.{Legal};
 ghost use Rattle.dm_model.specs.Progress.{site_vector};
-ghost use Rattle.dm_model.specs.Shape.{is_site};
 
 use crate::rows::restart_refusal;
 use dm_event::{Found, Schema, SiteNo, Step, Vector, Why};

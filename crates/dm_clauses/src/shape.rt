@@ -2,8 +2,9 @@
 
 ghost use Rattle.std.specs.Prelude.{◌≡◌, ◌<◌, ◌&&◌, nat_le, length, slice_index, map};
 ghost use Rattle.std.specs.List.{list_all};
+ghost use Rattle.dm_event.specs.Layout.{is_site, is_part, is_key};
 ghost use Rattle.dm_event.specs.declared.step.Step.TheVariants.{Doubt};
-ghost use Rattle.dm_model.specs.Shape.{is_ascending, is_site, is_part, is_key, is_vector, is_declared, is_op, are_ops, are_pairs, is_entry, is_want, is_cause, is_cause_at, is_said, is_shaped};
+ghost use Rattle.dm_model.specs.Shape.{is_ascending, is_vector, is_declared, is_op, are_ops, are_pairs, is_entry, is_want, is_cause, is_cause_at, is_said, is_shaped};
 
 use dm_event::{
     Cause, Entry, Key, Op, Pair, Part, Pending, Said, Schema, SiteNo, Step, TxnId, Vector, Want,

@@ -2,6 +2,7 @@
 
 ghost use Rattle.std.specs.List.{list_all};
 ghost use Rattle.std.specs.Prelude.{ℕ, ◌≡◌, ◌<◌, ◌≤◌, ◌↔◌, ◌++◌, ◌∷◌, [], true, false, None, Some, length, IfOk, IsNone, OnOk, OnErr, MatchResult, option_copied};
+ghost use Rattle.dm_event.specs.Layout.{is_key, is_site};
 ghost use Rattle.dm_core.specs.Ledger.{past};
 ghost use Rattle.dm_model.specs.Acts.{entry_at};
 ghost use Rattle.dm_model.specs.Allowed.{Allowed, next_refresh, refusal, runner};
@@ -17,7 +18,6 @@ ghost use Rattle.dm_model.specs.Placings.{placing};
 ghost use Rattle.dm_model.specs.Progress.{full, site_vector};
 ghost use Rattle.dm_model.specs.SessionUp.{SessionUp};
 ghost use Rattle.dm_model.specs.Sessions.{session_vector};
-ghost use Rattle.dm_model.specs.Shape.{is_key, is_site};
 ghost use Rattle.dm_model.specs.Snapshot.{Snapshot};
 ghost use Rattle.dm_model.specs.Values.{value};
 ghost use Rattle.dm_store.specs.Histories.{committed_inside};

@@ -2,5 +2,5 @@ pub mod Sites
 pub mod Backwards
 pub mod Components
 pub mod Rising
-pub mod Limits
+pub mod Bounds
 pub mod Bits

@@ -2,6 +2,7 @@ pub mod Numbers
 pub mod Layout
 pub mod VectorFields
 pub mod Vectors
+pub mod Txns
 pub mod Entries
 pub mod Actors
 pub mod Ascending

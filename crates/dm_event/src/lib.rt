@@ -4,6 +4,7 @@
 mod actor;
 mod attempt;
 mod copying;
+mod limits;
 mod lists;
 mod part_set;
 mod placing;
@@ -14,6 +15,10 @@ mod why;
 
 pub use actor::Actor;
 pub use attempt::{Attempt, AttemptState};
+pub use limits::{
+    MAX_FILE, MAX_KEYS, MAX_OPS, MAX_PARTS, MAX_RANGES, MAX_SESSIONS, MAX_SITES, MAX_WEIGHT,
+    MAX_WIDTH, WINDOW,
+};
 pub use lists::{Keys, Ops, Pairs};
 pub use part_set::PartSet;
 pub use placing::Placing;

@@ -2,9 +2,12 @@
 
 ghost use Rattle.std.specs.List.{list_all};
 ghost use Rattle.std.specs.Prelude.{◌≡◌, ◌<◌, ◌≤◌, slice_get, Some, length, find, reverse, true, IfOk, IfSome};
-ghost use Rattle.dm_event.specs.Layout.{is_layout, within_limits, is_between, fits_weights, fits_range, opening_value, part_of, holds_key};
+ghost use Rattle.dm_event.specs.Layout.{is_layout, is_site, is_part, is_key, is_session, within_limits, is_between, fits_weights, fits_range, opening_value, part_of, holds_key};
 
-use crate::{Key, NoMemory, Part, SiteNo, Value};
+use crate::{
+    Key, MAX_PARTS, MAX_RANGES, MAX_SESSIONS, MAX_SITES, MAX_WEIGHT, MAX_WIDTH, NoMemory, Part,
+    SiteNo, Value,
+};
 use std::marker::Model;
 
 /// What each part of a site's score counts for, 0 to 1,000 each.
@@ -72,7 +75,7 @@ impl Schema {
 
     pub fn sites(&self) -> u8
         ensures same { result ≡ self.now.sites }
-        ensures limits { (1 ≤ result) × (result ≤ 8) }
+        ensures limits { (1 ≤ result) × (result ≤ MAX_SITES) }
     {
         self.sites
     }
@@ -80,7 +83,7 @@ impl Schema {
     /// The number of partitions.
     pub fn parts(&self) -> u16
         ensures same { result ≡ length self.now.masters }
-        ensures limits { (1 ≤ result) × (result ≤ 256) }
+        ensures limits { (1 ≤ result) × (result ≤ MAX_PARTS) }
         ensures masters { list_all (is_between 1 self.now.sites) self.now.masters ≡ true }
     {
         self.masters.len() as u16
@@ -89,7 +92,7 @@ impl Schema {
     /// The number of keys in a partition.
     pub fn width(&self) -> u32
         ensures same { result ≡ self.now.width }
-        ensures limits { (1 ≤ result) × (result ≤ 65536) }
+        ensures limits { (1 ≤ result) × (result ≤ MAX_WIDTH) }
     {
         self.width
     }
@@ -98,6 +101,31 @@ impl Schema {
         ensures { result ≡ self.now.weights }
     {
         self.weights
+    }
+
+    pub fn is_site(&self, site: SiteNo) -> bool
+        ensures { result ≡ is_site self.now site }
+    {
+        1 <= site && site <= self.sites
+    }
+
+    pub fn is_part(&self, part: Part) -> bool
+        ensures { result ≡ is_part self.now part }
+    {
+        usize::from(part) < self.masters.len()
+    }
+
+    pub fn is_key(&self, key: Key) -> bool
+        ensures { result ≡ is_key self.now key }
+    {
+        u64::from(key) < self.masters.len() as u64 * u64::from(self.width)
+    }
+
+    /// Whether it is one of the sessions, which are the same ones whatever the schema is.
+    pub fn is_session(session: u32) -> bool
+        ensures { result ≡ is_session session }
+    {
+        1 <= session && session <= MAX_SESSIONS
     }
 
     /// The site that masters the partition before any hand-over.
@@ -112,9 +140,9 @@ impl Schema {
     pub fn part_of(&self, key: Key) -> Option<Part>
         ensures exact { result ≡ part_of self.now key }
         ensures inside { IfSome result (λ part. part < length self.now.masters) }
-        ensures few { IfSome result (λ part. part ≤ 255) }
+        ensures few { IfSome result (λ part. part < MAX_PARTS) }
     {
-        if u64::from(key) < self.masters.len() as u64 * u64::from(self.width) {
+        if self.is_key(key) {
             Some((key / self.width) as Part)
         } else {
             None
@@ -168,12 +196,12 @@ fn keeps_limits(
 ) -> bool
     ensures { result ≡ is_layout (record { sites = sites; width = width; masters = masters.now; weights = weights; values = values.now }) }
 {
-    is_between(1, 8, u64::from(sites))
-        && is_between(1, 65536, u64::from(width))
-        && is_between(1, 256, masters.len() as u64)
+    is_between(1, u64::from(MAX_SITES), u64::from(sites))
+        && is_between(1, u64::from(MAX_WIDTH), u64::from(width))
+        && is_between(1, u64::from(MAX_PARTS), masters.len() as u64)
         && are_sites(sites, masters)
         && are_weights(weights)
-        && values.len() <= 4096
+        && values.len() <= MAX_RANGES
         && are_ranges(masters.len() as u64 * u64::from(width), values)
 }
 
@@ -194,7 +222,7 @@ fn are_sites(sites: u8, masters: &[SiteNo]) -> bool
 fn are_weights(weights: Weights) -> bool
     ensures { result ≡ fits_weights weights }
 {
-    weights.balance <= 1000 && weights.delay <= 1000 && weights.together <= 1000
+    weights.balance <= MAX_WEIGHT && weights.delay <= MAX_WEIGHT && weights.together <= MAX_WEIGHT
 }
 
 fn are_ranges(keys: u64, values: &[ValueRange]) -> bool

@@ -2,6 +2,7 @@
 
 ghost use Rattle.std.specs.Prelude.{◌≡◌, ◌≤◌, length};
 ghost use Rattle.dm_event.specs.Entries.{commit_vector};
+ghost use Rattle.dm_event.specs.Txns.{same_txn};
 
 use crate::{Key, Keys, Ops, Pairs, Part, SiteNo, Value, Vector};
 
@@ -14,6 +15,15 @@ pub struct TxnId {
     pub number: u32,
     /// Which attempt at the item this is, from 1 on.
     pub attempt: u64,
+}
+
+impl TxnId {
+    pub fn same(&self, other: &TxnId) -> bool
+        ensures { result ≡ same_txn self.now other.now }
+    {
+        self.session == other.session
+            && (self.number == other.number && self.attempt == other.attempt)
+    }
 }
 
 /// A key with the value that was read or written.

@@ -1,9 +1,9 @@
 //! Version vectors: for each site a number of transactions.
 
 ghost use Rattle.std.specs.Prelude.{◌≡◌, ◌≤◌, ◌↔◌, IsTrue, length, replicate};
-ghost use Rattle.dm_event.specs.Vectors.{at, raised, join, AtMost};
+ghost use Rattle.dm_event.specs.Vectors.{at, raised, join, same_numbers, first_above, AtMost};
 
-use crate::SiteNo;
+use crate::{MAX_SITES, SiteNo};
 use std::marker::Model;
 
 /// A number for each site, that of site 1 first; after the paper's version vectors.
@@ -11,7 +11,7 @@ use std::marker::Model;
 pub struct Vector {
     count: u8,
     // Those past the count are 0.
-    parts: [u64; 8],
+    parts: [u64; MAX_SITES as usize],
 }
 
 impl Model for Vector {
@@ -31,19 +31,19 @@ impl Model for Vector {
 
 impl Vector {
     pub fn zeros(sites: u8) -> Vector
-        requires { (1 ≤ sites) × (sites ≤ 8) }
+        requires { (1 ≤ sites) × (sites ≤ MAX_SITES) }
         ensures { result ≡ replicate sites 0 }
     {
         Vector {
             count: sites,
-            parts: [0; 8],
+            parts: [0; MAX_SITES as usize],
         }
     }
 
     /// The components, that of site 1 first.
     pub fn as_slice(&self) -> &[u64]
         ensures same { result.now ≡ self.now }
-        ensures few { length result.now ≤ 8 }
+        ensures few { length result.now ≤ MAX_SITES }
     {
         &self.parts[..self.count as usize]
     }
@@ -72,7 +72,7 @@ impl Vector {
         requires { length self.old ≡ length other.now }
         ensures { self.new ≡ join self.old other.now }
     {
-        for i in 0..8 {
+        for i in 0..MAX_SITES as usize {
             self.parts[i] = self.parts[i].max(other.parts[i]);
         }
     }
@@ -81,11 +81,29 @@ impl Vector {
     pub fn leq(&self, other: &Vector) -> bool
         ensures { IsTrue result ↔ AtMost self.now other.now }
     {
-        for i in 0..8 {
+        for i in 0..MAX_SITES as usize {
             if other.parts[i] < self.parts[i] {
                 return false;
             }
         }
         true
+    }
+
+    pub fn same(&self, other: &Vector) -> bool
+        ensures { result ≡ same_numbers self.now other.now }
+    {
+        self.as_slice() == other.as_slice()
+    }
+
+    /// The least site of whose component it has more than the other vector.
+    pub fn first_above(&self, other: &Vector) -> Option<SiteNo>
+        ensures { result ≡ first_above (length self.now) self.now other.now }
+    {
+        for site in 1..self.as_slice().len() as SiteNo + 1 {
+            if other.get(site) < self.get(site) {
+                return Some(site);
+            }
+        }
+        None
     }
 }

@@ -3,11 +3,11 @@ use Rattle.std.proofs.Common.{ℕ, zero, suc, ◌<◌, ◌≤◌, ◌≡◌, Boo
 use Rattle.std.proofs.lemmas.Bool.{and_from, eq-eqb, false≢true}
 use Rattle.std.specs.List.{AllByRecursion as Each, Contains}
 use Rattle.std.specs.Prelude.{find}
+use Rattle.dm_event.specs.Txns.{same_txn}
 use Rattle.dm_event.specs.declared.step.TxnId.{TxnId}
 use Rattle.dm_locks.specs.Claims.{before, claim_of, is_of, without}
 use Rattle.dm_locks.specs.declared.claim.Claim.{Claim}
 use Rattle.dm_model.proofs.SameValues.{txn_same}
-use Rattle.dm_model.specs.Tests.{same_txn}
 use Rattle.dm_model.specs.Words.{count_of}
 
 -- the claim is one of the list

@@ -3,6 +3,7 @@ use Rattle.std.proofs.Common.{ℕ, ◌≡◌, Bool, true, false, not, List, [], 
 use Rattle.std.proofs.lemmas.Bool.{false≢true, cases_Bool}
 use Rattle.std.specs.List.{AllByRecursion as Each}
 use Rattle.std.specs.Prelude.{if◌then◌else◌, option_map, unwrap_or}
+use Rattle.dm_event.specs.Txns.{same_txn}
 use Rattle.dm_event.specs.declared.step.TxnId.{TxnId}
 use Rattle.dm_locks.proofs.Answers.{got_from, got_shares_none}
 use Rattle.dm_locks.proofs.Counts.{each_both, each_filter}
@@ -16,7 +17,6 @@ use Rattle.dm_model.proofs.SameValues.{txn_same}
 use Rattle.dm_model.proofs.KeysAndBodies.{no_common}
 use Rattle.dm_model.proofs.ListFacts.{found_holds}
 use Rattle.dm_model.specs.Allowed.{common_key}
-use Rattle.dm_model.specs.Tests.{same_txn}
 
 -- Q of the holders that share a key with the claim, and R of those that wait in front of it
 pub record Kept (Q R : Claim → Type 0) (claim : Claim) (locks : Locks) : Type 0 where

@@ -1,11 +1,12 @@
 -- Claims on keys, and what one who asks for keys is answered.
 use Rattle.std.specs.Prelude.{ℕ, ◌≡◌, ◌≤◌, Bool, IsTrue, ◌==◌, not, if◌then◌else◌, List, [], ◌∷◌, ◌++◌, Contains, Option, option_map, find, filter, filter_map}
+use Rattle.dm_event.specs.Txns.{same_txn}
 use Rattle.dm_event.specs.declared.step.TxnId.{TxnId}
 use Rattle.dm_locks.specs.declared.claim.Claim.{Claim}
 use Rattle.dm_locks.specs.declared.table.LockAnswer.{LockAnswer}
 use Rattle.dm_locks.specs.declared.table.LockAnswer.TheVariants.{Got, Waits}
 use Rattle.dm_model.specs.Allowed.{common_key}
-use Rattle.dm_model.specs.Tests.{same_txn, is_among}
+use Rattle.dm_model.specs.Tests.{is_among}
 
 -- whose claim it is
 abbrev pub is_of : TxnId → Claim → Bool

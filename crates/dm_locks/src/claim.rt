@@ -2,8 +2,8 @@
 
 ghost use Rattle.std.specs.Prelude.{◌≡◌, ◌++◌};
 ghost use Rattle.std.specs.List.Sorted.{IsStrictlyIncreasing};
+ghost use Rattle.dm_event.specs.Txns.{same_txn};
 ghost use Rattle.dm_model.specs.Allowed.{common_key};
-ghost use Rattle.dm_model.specs.Tests.{same_txn};
 ghost use Rattle.dm_locks.specs.Claims.{answer};
 
 use crate::LockAnswer;

@@ -5,7 +5,7 @@ use Rattle.std.specs.List.{AllByRecursion as Each, cons_option}
 use Rattle.std.specs.Option.{option_or}
 use Rattle.std.specs.Prelude.{option_map, option_to_list, filter_map}
 use Rattle.dm_event.specs.Entries.{commit_vector}
-use Rattle.dm_event.specs.Layout.{Layout}
+use Rattle.dm_event.specs.Layout.{Layout, is_site}
 use Rattle.dm_event.specs.Vectors.{at, join_all, greatest}
 use Rattle.dm_event.specs.declared.placing.Placing.{Placing}
 use Rattle.dm_event.specs.declared.placing.Placing.TheVariants.{Between, Granted}
@@ -35,7 +35,6 @@ use Rattle.dm_model.specs.Legal.{LegalPast}
 use Rattle.dm_model.specs.Placings.{placing, after_acts, asked, settled}
 use Rattle.dm_model.specs.Progress.{reached, site_vector}
 use Rattle.dm_model.specs.Runs.{began_at}
-use Rattle.dm_model.specs.Shape.{is_site}
 use Rattle.dm_model.specs.Words.{latest}
 
 -- the act's vectors are closed

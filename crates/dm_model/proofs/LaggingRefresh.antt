@@ -4,7 +4,7 @@ use Rattle.std.proofs.lemmas.Bool.{cases_eq, eq-eqb, ne_eqb, cond-true, and_part
 use Rattle.std.specs.List.{AllByRecursion as Each}
 use Rattle.std.specs.Prelude.{find, option_map, option_and_then, option_to_list, filter_map, is_some}
 use Rattle.dm_event.proofs.Sites.{find_nothing}
-use Rattle.dm_event.specs.Layout.{Layout}
+use Rattle.dm_event.specs.Layout.{Layout, is_site}
 use Rattle.dm_event.specs.Vectors.{at}
 use Rattle.dm_event.specs.declared.step.Entry.{Entry}
 use Rattle.dm_event.specs.declared.step.Found.TheVariants.{Kept}
@@ -26,7 +26,7 @@ use Rattle.dm_model.specs.Clauses.{holds, none_of}
 use Rattle.dm_model.specs.Doubts.{step_of, is_down, pending_at}
 use Rattle.dm_model.specs.Legal.{LegalPast}
 use Rattle.dm_model.specs.Progress.{reached, site_vector, entry_count}
-use Rattle.dm_model.specs.Shape.{is_site, is_shaped}
+use Rattle.dm_model.specs.Shape.{is_shaped}
 
 -- each entry is of a site, and began within the entries before it
 abbrev pub Grounded : Layout → List Entry → Type 0

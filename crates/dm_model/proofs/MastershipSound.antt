@@ -3,8 +3,9 @@ use Rattle.std.proofs.Common.{ℕ, suc, ◌+◌, ◌/◌, ◌≤◌, ◌≡◌, 
 use Rattle.std.proofs.lemmas.Bool.{not-true, cases_Bool, cases_eq, eqb-true, eqb-false, eq-eqb, ne_eqb, cond-true, cond-false, false≢true, and_parts, leb-true, false_from_ne_true}
 use Rattle.std.specs.List.{AllByRecursion as Each}
 use Rattle.std.specs.Prelude.{option_map, option_to_list, filter_map}
+use Rattle.dm_event.specs.Txns.{same_txn}
 use Rattle.dm_event.specs.Entries.{commit_vector}
-use Rattle.dm_event.specs.Layout.{Layout}
+use Rattle.dm_event.specs.Layout.{Layout, is_site}
 use Rattle.dm_event.specs.Vectors.{at, join_all, greatest}
 use Rattle.dm_event.specs.declared.attempt.AttemptState.{AttemptState}
 use Rattle.dm_event.specs.declared.placing.Placing.{Placing}
@@ -48,8 +49,8 @@ use Rattle.dm_model.specs.Placings.{placing, after_acts, asked, settled, masters
 use Rattle.dm_model.specs.Progress.{reached, refreshed, site_vector, entry_count}
 use Rattle.dm_model.specs.Rows.{found_fits, when_asked, when_between, may_route}
 use Rattle.dm_model.specs.Runs.{runs, running, begin_vector, began_at}
-use Rattle.dm_model.specs.Shape.{is_site, is_txn}
-use Rattle.dm_model.specs.Tests.{same_txn, same_pairs, is_among}
+use Rattle.dm_model.specs.Shape.{is_txn}
+use Rattle.dm_model.specs.Tests.{same_pairs, is_among}
 use Rattle.dm_model.specs.Values.{value}
 
 abbrev pub part_of : Layout → ℕ → ℕ

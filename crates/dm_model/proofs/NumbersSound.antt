@@ -3,7 +3,8 @@ use Rattle.std.proofs.Common.{ℕ, zero, suc, ◌+◌, ◌≤◌, ◌≡◌, ◌
 use Rattle.std.proofs.lemmas.Bool.{not-true, cases_Bool, cases_eq, eqb-true, eqb-false, eq-eqb, ne_eqb, cond-true, cond-false, false≢true, and_parts, leb-true}
 use Rattle.std.specs.List.{AllByRecursion as Each}
 use Rattle.std.specs.Prelude.{option_map, option_and_then, option_to_list, filter_map, is_some}
-use Rattle.dm_event.specs.Layout.{Layout}
+use Rattle.dm_event.specs.Txns.{same_txn}
+use Rattle.dm_event.specs.Layout.{Layout, is_site}
 use Rattle.dm_event.specs.Vectors.{at, raised}
 use Rattle.dm_event.specs.declared.step.Entry.{Entry}
 use Rattle.dm_event.specs.declared.step.Found.{Found}
@@ -30,8 +31,6 @@ use Rattle.dm_model.specs.Legal.{LegalPast}
 use Rattle.dm_model.specs.Progress.{reached, refreshed, site_vector, entry_count}
 use Rattle.dm_model.specs.Rows.{found_fits}
 use Rattle.dm_model.specs.Runs.{runs, begin_vector, began_at}
-use Rattle.dm_model.specs.Shape.{is_site}
-use Rattle.dm_model.specs.Tests.{same_txn}
 
 -- the counts and vectors of the past are sound
 abbrev pub SoundPast : Layout → List Step → Type 0

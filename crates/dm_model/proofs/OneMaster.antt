@@ -3,7 +3,7 @@ use Rattle.std.proofs.Common.{ℕ, zero, suc, ◌<◌, ◌≡◌, Bool, true, fa
 use Rattle.std.proofs.lemmas.Bool.{eqb-true, eq-eqb, ne_eqb, false≢true, and_parts, and_from, or_cases, false_from_ne_true}
 use Rattle.std.specs.List.{list_any}
 use Rattle.std.specs.Prelude.{option_map, option_to_list, slice_index}
-use Rattle.dm_event.specs.Layout.{Layout}
+use Rattle.dm_event.specs.Layout.{Layout, is_site}
 use Rattle.dm_event.specs.declared.placing.Placing.{Placing}
 use Rattle.dm_event.specs.declared.placing.Placing.TheVariants.{Settled, Asked, Between, Granted}
 use Rattle.dm_event.specs.declared.step.Entry.{Entry}
@@ -29,7 +29,6 @@ use Rattle.dm_model.specs.Masters.{opens_with, grants, releases}
 use Rattle.dm_model.specs.OneMaster.{takes, HasOneMaster, WritesMastered, OneMasterPast}
 use Rattle.dm_model.specs.Placings.{placing, after_acts, asked, settled, masters_now}
 use Rattle.dm_model.specs.Progress.{reached}
-use Rattle.dm_model.specs.Shape.{is_site}
 use Rattle.dm_model.specs.Words.{latest}
 
 -- the placing gives the partition to the site under the epoch

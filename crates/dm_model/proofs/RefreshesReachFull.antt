@@ -2,7 +2,7 @@
 use Rattle.std.proofs.Common.{ℕ, ◌+◌, ◌≤◌, ◌≡◌, ◌≢◌, false, true, List, ◌∷◌, Option, Some, None, refl, ap, ◌∙◌, arith, nat_lt, nat_le}
 use Rattle.std.proofs.lemmas.Bool.{leb-true, ltb-true, ltb-false, false≢true, and_parts}
 use Rattle.std.specs.Prelude.{find, is_some}
-use Rattle.dm_event.specs.Layout.{Layout}
+use Rattle.dm_event.specs.Layout.{Layout, is_site}
 use Rattle.dm_event.specs.Vectors.{at, AtMost, sites_to}
 use Rattle.dm_event.specs.declared.step.Entry.{Entry}
 use Rattle.dm_event.specs.declared.step.Step.{Step}
@@ -24,7 +24,6 @@ use Rattle.dm_model.specs.Doubts.{is_down}
 use Rattle.dm_model.specs.Floors.{floor}
 use Rattle.dm_model.specs.Legal.{LegalPast}
 use Rattle.dm_model.specs.Progress.{site_vector, full, reached, entry_count}
-use Rattle.dm_model.specs.Shape.{is_site}
 
 -- ---- the floor
 

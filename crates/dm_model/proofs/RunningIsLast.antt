@@ -3,6 +3,7 @@ use Rattle.std.proofs.Common.{ℕ, ◌≡◌, ◌≢◌, Bool, true, false, ◌=
 use Rattle.std.proofs.lemmas.Bool.{cases_Bool, eqb-true, eqb-false, eq-eqb, ne_eqb, cond-false, false≢true, and_parts, or_cases}
 use Rattle.std.specs.Option.{option_map_or}
 use Rattle.std.specs.Prelude.{is_some}
+use Rattle.dm_event.specs.Txns.{same_txn}
 use Rattle.dm_event.specs.Layout.{Layout}
 use Rattle.dm_event.specs.declared.attempt.AttemptState.{AttemptState}
 use Rattle.dm_event.specs.declared.attempt.AttemptState.TheVariants.{Unrouted, Routed, Running, Committed, Ended, Failed, Doubted}
@@ -27,7 +28,6 @@ use Rattle.dm_model.specs.Legal.{LegalPast}
 use Rattle.dm_model.specs.Outcomes.{may_say, is_committed, is_ended, is_doubted, wants_place, wants_restart, is_routed_for, may_refuse}
 use Rattle.dm_model.specs.Rows.{may_route}
 use Rattle.dm_model.specs.Runs.{runs, run_site}
-use Rattle.dm_model.specs.Tests.{same_txn}
 
 -- the attempt is the session's last, and runs at the site
 pub record Seat (past : List Step) (i : ℕ) (t : TxnId) : Type 0 where

@@ -4,6 +4,7 @@ use Rattle.std.proofs.lemmas.Bool.{false≢true, or_cases, or_left, or_right}
 use Rattle.std.specs.List.{AllByRecursion as Each, list_any, cons_option}
 use Rattle.std.specs.Option.{option_or}
 use Rattle.std.specs.Prelude.{filter, filter_map, reverse}
+use Rattle.dm_event.specs.Txns.{same_txn}
 use Rattle.dm_event.specs.declared.step.Step.{Step}
 use Rattle.dm_event.specs.declared.step.Step.TheVariants.{Route, Reply, Ask, Settle, Begin, Moved, Commit, End, Fail, Refresh, Release, Grant, Doubt, Restart}
 use Rattle.dm_event.specs.declared.step.TxnId.{TxnId}
@@ -13,7 +14,6 @@ use Rattle.dm_model.proofs.SameValues.{txn_same}
 use Rattle.dm_model.specs.Allowed.{holder_among, common_key}
 use Rattle.dm_model.specs.Attempts.{declared}
 use Rattle.dm_model.specs.Runs.{runs, runs_after, running, begun_at}
-use Rattle.dm_model.specs.Tests.{same_txn}
 use Rattle.dm_model.specs.Words.{latest}
 
 each_any : (P : TxnId → Type 0) (ts : List TxnId) (t : TxnId) → Each P ts → list_any (same_txn t) ts ≡ true → P t

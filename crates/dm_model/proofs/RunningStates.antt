@@ -3,6 +3,7 @@ use Rattle.std.proofs.Common.{ℕ, ◌≡◌, ◌≢◌, Bool, true, false, ◌=
 use Rattle.std.proofs.lemmas.Bool.{false≢true, eqb-true, eqb-false, eq-eqb, ne_eqb, or_cases, false_from_ne_true}
 use Rattle.std.specs.Option.{option_or}
 use Rattle.std.specs.Prelude.{option_map, is_some}
+use Rattle.dm_event.specs.Txns.{same_txn}
 use Rattle.dm_event.specs.Layout.{Layout}
 use Rattle.dm_event.specs.declared.attempt.Attempt.{Attempt}
 use Rattle.dm_event.specs.declared.attempt.AttemptState.{AttemptState}
@@ -23,7 +24,6 @@ use Rattle.dm_model.specs.Attempts.{Routing, last_routing, is_reply, dropped_at,
 use Rattle.dm_model.specs.Clauses.{holds}
 use Rattle.dm_model.specs.Legal.{LegalPast}
 use Rattle.dm_model.specs.Runs.{runs, run_site, runs_after}
-use Rattle.dm_model.specs.Tests.{same_txn}
 use Rattle.dm_model.specs.Words.{since, latest}
 
 -- ---- an item that has been routed has its session's last Route

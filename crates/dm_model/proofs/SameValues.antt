@@ -3,11 +3,12 @@ use Rattle.std.proofs.Common.{ℕ, ◌≡◌, true, ◌==◌, ◌&&◌, List, Op
 use Rattle.std.proofs.lemmas.Bool.{eqb-true, eq-eqb, and_parts, and_from}
 use Rattle.std.proofs.lemmas.Bool.Decides.{Decides-int_eq}
 use lib.Pointwise.{pointwise_decides}
+use Rattle.dm_event.specs.Txns.{same_txn}
 use Rattle.dm_event.specs.declared.step.Cause.{Cause}
 use Rattle.dm_event.specs.declared.step.Cause.TheVariants.{Undeclared, Log, Damage, Memory}
 use Rattle.dm_event.specs.declared.step.Pair.{Pair}
 use Rattle.dm_event.specs.declared.step.TxnId.{TxnId}
-use Rattle.dm_model.specs.Tests.{same_txn, same_pair, same_pairs, same_byte, same_cause}
+use Rattle.dm_model.specs.Tests.{same_pair, same_pairs, same_byte, same_cause}
 use Rattle.dm_model.specs.Values.{written}
 
 -- what passes is equal, and what is equal passes

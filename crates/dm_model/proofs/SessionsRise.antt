@@ -3,7 +3,8 @@ use Rattle.std.proofs.Common.{ℕ, ◌≤◌, ◌≡◌, Bool, true, false, ◌=
 use Rattle.std.proofs.lemmas.Bool.{eqb-true, eq-eqb, ne_eqb, cond-true, cond-false, false≢true, and_parts, and_from, false_from_ne_true}
 use Rattle.std.specs.List.{cons_option}
 use Rattle.std.specs.Prelude.{find, option_map, option_to_list, filter_map, option_and_then}
-use Rattle.dm_event.specs.Layout.{Layout}
+use Rattle.dm_event.specs.Txns.{same_txn}
+use Rattle.dm_event.specs.Layout.{Layout, is_site}
 use Rattle.dm_event.specs.Vectors.{at, AtMost, join_all, first_above}
 use Rattle.dm_event.specs.declared.attempt.AttemptState.{AttemptState}
 use Rattle.dm_event.specs.declared.attempt.AttemptState.TheVariants.{Unrouted, Routed, Running, Committed, Ended, Failed, Doubted, Dropped}
@@ -37,8 +38,7 @@ use Rattle.dm_model.specs.Outcomes.{is_committed, is_ended}
 use Rattle.dm_model.specs.Runs.{runs, begin_vector, last_begin, began_at}
 use Rattle.dm_model.specs.SessionUp.{SessionUpPast, SessionWithin, AnswersUp}
 use Rattle.dm_model.specs.Sessions.{answered, answered_by, session_vector}
-use Rattle.dm_model.specs.Shape.{is_vector, is_site, is_want, is_txn}
-use Rattle.dm_model.specs.Tests.{same_txn}
+use Rattle.dm_model.specs.Shape.{is_vector, is_want, is_txn}
 
 -- ---- the session's vector grows
 

@@ -2,11 +2,11 @@
 use Rattle.std.proofs.Common.{◌≡◌, Bool, true, false, if◌then◌else◌, List, Option, Some, None, refl, ap, subst}
 use Rattle.std.proofs.lemmas.Bool.{false≢true}
 use Rattle.std.specs.Prelude.{is_some, option_map}
+use Rattle.dm_event.specs.Txns.{same_txn}
 use Rattle.dm_event.specs.declared.step.Step.{Step}
 use Rattle.dm_event.specs.declared.step.TxnId.{TxnId}
 use Rattle.dm_model.proofs.SameValues.{txn_same}
 use Rattle.dm_model.specs.Attempts.{routed, is_routed, state, last_routing, Routing, standing, routed_txn, wants_txn}
-use Rattle.dm_model.specs.Tests.{same_txn}
 use Rattle.dm_model.specs.Words.{option_filter}
 
 -- what there is passes

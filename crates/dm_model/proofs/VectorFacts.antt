@@ -6,9 +6,8 @@ use Rattle.std.proofs.lemmas.Grind.{common_steps}
 use Rattle.std.proofs.lemmas.List.FromFn.{get_or-map-range_with_len, length-map-range_with_len}
 use Rattle.std.specs.Cmp.Lexicographic.{bytes_decides}
 use Rattle.std.specs.Prelude.{set}
-use Rattle.dm_event.specs.Vectors.{at, vector_by, first_above, raised, sites_to, join_all, greatest}
+use Rattle.dm_event.specs.Vectors.{at, vector_by, first_above, raised, sites_to, join_all, greatest, same_numbers}
 use Rattle.dm_model.proofs.ListFacts.{find_none, each_range}
-use Rattle.dm_model.specs.Tests.{same_numbers}
 
 -- past the end there is 0
 pub at_past : (v : List ℕ) (j : ℕ) → length v < j → at v j ≡ 0

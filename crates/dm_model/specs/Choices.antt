@@ -3,6 +3,7 @@ use Rattle.std.specs.List.{list_all, range_with_len}
 use Rattle.std.specs.Prelude.{ℕ, ◌+◌, ◌-◌, ◌/◌, ◌%◌, ℤ, if◌then◌else◌, List, [], ◌∷◌, Option, Some, None, unwrap_or, find, take, filter_map, map, length}
 use Rattle.dm_event.specs.Layout.{Layout}
 use Rattle.dm_event.specs.Vectors.{sites_to, is_at_most}
+use Rattle.dm_event.specs.declared.limits.TheConstants.{WINDOW}
 use Rattle.dm_event.specs.declared.step.Choice.{Choice}
 use Rattle.dm_event.specs.declared.step.Choice.TheVariants.{Master, Best, Reader, Hand}
 use Rattle.dm_event.specs.declared.step.Step.{Step}
@@ -34,9 +35,9 @@ declared_parts layout (Route txn (want.Txn []) min site choice) = None
 declared_parts layout (Route txn (want.Txn (key ∷ keys)) min site choice) = Some (parts_of layout (key ∷ keys))
 declared_parts layout s = None
 
--- the sets of partitions of the last 256 Routes with declared keys
+-- the sets of partitions of the last Routes with declared keys
 abbrev pub window : Layout → List Step → List (List ℕ)
-window layout past = take 256 (filter_map (declared_parts layout) past)
+window layout past = take WINDOW (filter_map (declared_parts layout) past)
 
 abbrev pub home : Layout → List Step → ℕ → ℕ
 home layout past part = home_now (placing layout past part)

@@ -1,7 +1,7 @@
 -- The clauses of each kind of step but for its shape, as functions of what they read of the past. The step's own values stand
 -- last.
 use Rattle.std.specs.Prelude.{ℕ, ◌+◌, Bool, true, false, ◌==◌, ◌&&◌, ◌||◌, not, List, [], ◌∷◌, Option, Some, unwrap_or, is_some}
-use Rattle.dm_event.specs.Vectors.{at}
+use Rattle.dm_event.specs.Vectors.{at, same_numbers}
 use Rattle.dm_event.specs.declared.attempt.Attempt.{Attempt}
 use Rattle.dm_event.specs.declared.attempt.AttemptState.{AttemptState}
 use Rattle.dm_event.specs.declared.attempt.AttemptState.TheVariants as stands
@@ -18,7 +18,7 @@ use Rattle.dm_event.specs.declared.step.TxnId.{TxnId}
 use Rattle.dm_event.specs.declared.why.Why.TheVariants as why
 use Rattle.dm_model.specs.Bodies.{Ran, has_writes}
 use Rattle.dm_model.specs.Clauses.{Clause, holds, none_of, at_site}
-use Rattle.dm_model.specs.Tests.{same_numbers, same_pairs, same_choice}
+use Rattle.dm_model.specs.Tests.{same_pairs, same_choice}
 
 -- ---- steps of a session
 

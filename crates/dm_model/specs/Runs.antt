@@ -1,11 +1,11 @@
 -- Which attempts run at which site, and from which vector.
 use Rattle.std.specs.Prelude.{ℕ, Bool, false, ◌==◌, if◌then◌else◌, List, [], Option, Some, None, unwrap_or, find, filter, filter_map, reverse}
+use Rattle.dm_event.specs.Txns.{same_txn}
 use Rattle.dm_event.specs.Layout.{Layout}
 use Rattle.dm_event.specs.Vectors.{sites_to}
 use Rattle.dm_event.specs.declared.step.Step.{Step}
 use Rattle.dm_event.specs.declared.step.Step.TheVariants.{Begin, Commit, End, Fail, Doubt, Restart}
 use Rattle.dm_event.specs.declared.step.TxnId.{TxnId}
-use Rattle.dm_model.specs.Tests.{same_txn}
 use Rattle.dm_model.specs.Words.{latest}
 
 -- whether the step begins or ends a run of the attempt at the site

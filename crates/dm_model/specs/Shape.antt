@@ -1,7 +1,8 @@
 -- The ranges of the numbers in a step.
 use Rattle.std.specs.List.{list_all}
 use Rattle.std.specs.Prelude.{ℕ, Bool, true, false, ◌==◌, nat_le, nat_lt, ◌&&◌, not, List, [], ◌∷◌, length, map}
-use Rattle.dm_event.specs.Layout.{Layout, key_count, is_between}
+use Rattle.dm_event.specs.Layout.{Layout, is_site, is_part, is_key, is_session}
+use Rattle.dm_event.specs.declared.limits.TheConstants.{MAX_KEYS, MAX_OPS}
 use Rattle.dm_event.specs.declared.step.Cause.{Cause}
 use Rattle.dm_event.specs.declared.step.Cause.TheVariants as cause
 use Rattle.dm_event.specs.declared.step.Entry.{Entry}
@@ -25,18 +26,6 @@ is_ascending (x ∷ []) = true
 is_ascending (x ∷ y ∷ xs) = nat_lt x y && is_ascending (y ∷ xs)
 
 module _ (layout : Layout) where
-  abbrev pub is_site : ℕ → Bool
-  is_site i = is_between 1 layout.sites i
-
-  abbrev pub is_part : ℕ → Bool
-  is_part p = nat_lt p (length layout.masters)
-
-  abbrev pub is_key : ℕ → Bool
-  is_key key = nat_lt key (key_count layout)
-
-  abbrev pub is_session : ℕ → Bool
-  is_session c = is_between 1 32 c
-
   -- numbers and attempts count from 1
   abbrev pub is_txn : TxnId → Bool
   is_txn t = is_session t.session && (nat_le 1 t.number && nat_le 1 t.attempt)
@@ -45,38 +34,36 @@ module _ (layout : Layout) where
   abbrev pub is_vector : List ℕ → Bool
   is_vector v = length v == layout.sites
 
-  -- at most 32 keys
   abbrev pub is_declared : List ℕ → Bool
-  is_declared keys = is_ascending keys && (nat_le (length keys) 32 && list_all is_key keys)
+  is_declared keys = is_ascending keys && (nat_le (length keys) MAX_KEYS && list_all (is_key layout) keys)
 
   abbrev pub is_op : Op → Bool
-  is_op (Read key) = is_key key
-  is_op (Write key value) = is_key key
-  is_op (Add key by) = is_key key
+  is_op (Read key) = is_key layout key
+  is_op (Write key value) = is_key layout key
+  is_op (Add key by) = is_key layout key
 
-  -- at most 64 ops
   abbrev pub are_ops : List Op → Bool
-  are_ops ops = nat_le (length ops) 64 && list_all is_op ops
+  are_ops ops = nat_le (length ops) MAX_OPS && list_all is_op ops
 
   abbrev pub are_pairs : List Pair → Bool
-  are_pairs ps = list_all (λ p. is_key p.key) ps
+  are_pairs ps = list_all (λ p. is_key layout p.key) ps
 
   -- the written keys ascend
   abbrev pub is_entry : Entry → Bool
   is_entry e =
-      is_txn e.txn && (is_site e.origin && (is_vector e.begin
+      is_txn e.txn && (is_site layout e.origin && (is_vector e.begin
       && (are_ops e.ops && (are_pairs e.reads && (are_pairs e.writes && is_ascending (map (λ p. p.key) e.writes))))))
 
   abbrev pub is_want : Want → Bool
   is_want (want.Txn keys) = is_declared keys
-  is_want (want.Place part) = is_part part
+  is_want (want.Place part) = is_part layout part
   is_want want.Restart = true
 
   -- in damage the byte that was read differs from the one that was written
   abbrev pub is_cause : Cause → Bool
-  is_cause (cause.Undeclared key) = is_key key
-  is_cause (cause.Log site) = is_site site
-  is_cause (cause.Damage site place read written) = is_site site && not (same_byte read written)
+  is_cause (cause.Undeclared key) = is_key layout key
+  is_cause (cause.Log site) = is_site layout site
+  is_cause (cause.Damage site place read written) = is_site layout site && not (same_byte read written)
   is_cause cause.Memory = true
 
   -- a cause for which an attempt fails at the site: its own log, or memory
@@ -87,28 +74,28 @@ module _ (layout : Layout) where
   is_cause_at i cause.Memory = true
 
   abbrev pub is_said : Said → Bool
-  is_said (said.Committed site seq) = is_site site
-  is_said (said.Read site) = is_site site
-  is_said (said.InDoubt site) = is_site site
-  is_said (said.Placed part site epoch) = is_part part && is_site site
-  is_said (said.Restarted site) = is_site site
+  is_said (said.Committed site seq) = is_site layout site
+  is_said (said.Read site) = is_site layout site
+  is_said (said.InDoubt site) = is_site layout site
+  is_said (said.Placed part site epoch) = is_part layout part && is_site layout site
+  is_said (said.Restarted site) = is_site layout site
   is_said (said.Refused why) = is_cause why
 
   -- a Doubt has the shape of its pending step at that site, which for a commit is the origin
   abbrev pub is_shaped : Step → Bool
-  is_shaped (Route txn want min site choice) = is_txn txn && (is_want want && (is_vector min && is_site site))
+  is_shaped (Route txn want min site choice) = is_txn txn && (is_want want && (is_vector min && is_site layout site))
   is_shaped (Reply session number said) = is_session session && (nat_le 1 number && is_said said)
-  is_shaped (Ask part epoch to txn) = is_part part && (is_site to && is_txn txn)
-  is_shaped (Settle part epoch) = is_part part
-  is_shaped (Begin site txn begin) = is_site site && (is_txn txn && is_vector begin)
-  is_shaped (Moved site txn) = is_site site && is_txn txn
+  is_shaped (Ask part epoch to txn) = is_part layout part && (is_site layout to && is_txn txn)
+  is_shaped (Settle part epoch) = is_part layout part
+  is_shaped (Begin site txn begin) = is_site layout site && (is_txn txn && is_vector begin)
+  is_shaped (Moved site txn) = is_site layout site && is_txn txn
   is_shaped (Commit entry) = is_entry entry
-  is_shaped (End site txn ops reads) = is_site site && (is_txn txn && (are_ops ops && are_pairs reads))
-  is_shaped (Fail site txn cause) = is_site site && (is_txn txn && (is_cause cause && is_cause_at site cause))
-  is_shaped (Refresh site origin) = is_site site && is_site origin
-  is_shaped (Release site part epoch to vector) = is_site site && (is_part part && (is_site to && is_vector vector))
-  is_shaped (Grant site part epoch vector) = is_site site && (is_part part && is_vector vector)
-  is_shaped (Doubt site (pending.Commit entry)) = is_site site && (is_entry entry && (entry.origin == site))
-  is_shaped (Doubt site (pending.Release part epoch to vector)) = is_site site && (is_part part && (is_site to && is_vector vector))
-  is_shaped (Doubt site (pending.Grant part epoch vector)) = is_site site && (is_part part && is_vector vector)
-  is_shaped (Restart site vector found) = is_site site && is_vector vector
+  is_shaped (End site txn ops reads) = is_site layout site && (is_txn txn && (are_ops ops && are_pairs reads))
+  is_shaped (Fail site txn cause) = is_site layout site && (is_txn txn && (is_cause cause && is_cause_at site cause))
+  is_shaped (Refresh site origin) = is_site layout site && is_site layout origin
+  is_shaped (Release site part epoch to vector) = is_site layout site && (is_part layout part && (is_site layout to && is_vector vector))
+  is_shaped (Grant site part epoch vector) = is_site layout site && (is_part layout part && is_vector vector)
+  is_shaped (Doubt site (pending.Commit entry)) = is_site layout site && (is_entry entry && (entry.origin == site))
+  is_shaped (Doubt site (pending.Release part epoch to vector)) = is_site layout site && (is_part layout part && (is_site layout to && is_vector vector))
+  is_shaped (Doubt site (pending.Grant part epoch vector)) = is_site layout site && (is_part layout part && is_vector vector)
+  is_shaped (Restart site vector found) = is_site layout site && is_vector vector

@@ -3,23 +3,15 @@ use Rattle.std.specs.Cmp.Lexicographic.{pointwise}
 use Rattle.std.specs.List.{list_any}
 use Rattle.std.specs.Ordering.{int_eq}
 use Rattle.std.specs.Prelude.{ℕ, Bool, true, false, ◌==◌, ◌&&◌, List, Option, Some, None}
-use Rattle.std.specs.Str.{bytes_eq}
 use Rattle.dm_event.specs.declared.step.Cause.{Cause}
 use Rattle.dm_event.specs.declared.step.Cause.TheVariants.{Undeclared, Log, Damage, Memory}
 use Rattle.dm_event.specs.declared.step.Choice.{Choice}
 use Rattle.dm_event.specs.declared.step.Choice.TheVariants.{Master, Best, Reader, Hand}
 use Rattle.dm_event.specs.declared.step.Pair.{Pair}
-use Rattle.dm_event.specs.declared.step.TxnId.{TxnId}
 
 -- the number is one of the list
 abbrev pub is_among : List ℕ → ℕ → Bool
 is_among xs x = list_any (λ y. y == x) xs
-
-abbrev pub same_numbers : List ℕ → List ℕ → Bool
-same_numbers u v = bytes_eq u v
-
-abbrev pub same_txn : TxnId → TxnId → Bool
-same_txn a b = (a.session == b.session) && ((a.number == b.number) && (a.attempt == b.attempt))
 
 abbrev pub same_pair : Pair → Pair → Bool
 same_pair a b = (a.key == b.key) && int_eq a.value b.value

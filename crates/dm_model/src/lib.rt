@@ -3,7 +3,7 @@
 #![tactic(auto)]
 
 ghost use Rattle.std.specs.Prelude.{ℕ, ◌≡◌, ◌≢◌, ◌↔◌, List, reverse, Some, IsTrue, IsSome};
-ghost use Rattle.dm_event.specs.Layout.{Layout};
+ghost use Rattle.dm_event.specs.Layout.{Layout, is_site};
 ghost use Rattle.dm_event.specs.declared.attempt.AttemptState.TheVariants.{Routed, Running};
 ghost use Rattle.dm_event.specs.declared.step.Cause.TheVariants.{Memory, Undeclared};
 ghost use Rattle.dm_event.specs.declared.step.Choice.{Choice};
@@ -24,7 +24,6 @@ ghost use Rattle.dm_model.specs.Outcomes.{may_say, said_due};
 ghost use Rattle.dm_model.specs.Progress.{site_vector, full};
 ghost use Rattle.dm_model.specs.Runs.{runs};
 ghost use Rattle.dm_model.specs.SessionUp.{SessionUp};
-ghost use Rattle.dm_model.specs.Shape.{is_site};
 ghost use Rattle.dm_model.specs.Snapshot.{Snapshot};
 
 /// In every legal history each transaction read its snapshot, the writers of a key are in order, no

@@ -4,7 +4,7 @@ use Rattle.std.specs.List.{AllByRecursion as Each, list_all, cons_option, filter
 use Rattle.std.specs.Prelude.{◌||◌, nat_le}
 use Rattle.std.proofs.Math.Nat.{div-lt_iff_lt-mul}
 use Rattle.std.proofs.lemmas.Bool.{cases_eq, cases_lt, and_parts, ltb-true, ne_eqb}
-use Rattle.dm_event.specs.Layout.{Layout}
+use Rattle.dm_event.specs.Layout.{Layout, is_key}
 use Rattle.dm_event.specs.declared.step.Step.{Step}
 use Rattle.dm_event.specs.declared.step.Step.TheVariants.{Route}
 use Rattle.dm_event.specs.declared.step.Want.TheVariants as want
@@ -14,7 +14,7 @@ use Rattle.dm_model.specs.Allowed.{Allowed, clauses}
 use Rattle.dm_model.specs.Clauses.{holds}
 use Rattle.dm_model.specs.Choices.{declared_parts, parts_in_order, parts_of, window as window_of}
 use Rattle.dm_model.specs.Legal.{LegalPast}
-use Rattle.dm_model.specs.Shape.{is_shaped, is_key, is_txn, is_want, is_ascending}
+use Rattle.dm_model.specs.Shape.{is_shaped, is_txn, is_want, is_ascending}
 use Rattle.dm_model.specs.Tests.{is_among}
 use Rattle.dm_placement.proofs.Joined.{Below}
 use Rattle.dm_placement.proofs.Windows.{among_distinct}

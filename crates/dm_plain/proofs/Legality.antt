@@ -5,7 +5,7 @@ use Rattle.std.specs.Prelude.{nat_le, option_map, ◌==◌, ◌&&◌, if◌then�
 use Rattle.std.specs.List.{AllByRecursion as Each, list_all}
 use Rattle.std.specs.Option.{option_or}
 use Rattle.std.proofs.lemmas.Bool.{and_parts, leb-true, cond-true, cond-false, ne_eqb, both_ways}
-use Rattle.dm_event.specs.Layout.{Layout}
+use Rattle.dm_event.specs.Layout.{Layout, is_key}
 use Rattle.dm_event.specs.Vectors.{sites_to}
 use Rattle.dm_event.specs.declared.step.Entry.{Entry}
 use Rattle.dm_event.specs.declared.step.Pending.{Pending}
@@ -27,7 +27,7 @@ use Rattle.dm_model.specs.Legal.{LegalPast}
 use Rattle.dm_model.specs.Progress.{entry_count, reached, refreshed}
 use Rattle.dm_model.specs.Runs.{begin_of, runs, run_site, begin_vector}
 use Rattle.dm_model.specs.Sessions.{answered_by}
-use Rattle.dm_model.specs.Shape.{is_shaped, is_want, is_key, is_ascending}
+use Rattle.dm_model.specs.Shape.{is_shaped, is_want, is_ascending}
 use Rattle.dm_model.specs.Words.{latest}
 use Rattle.dm_model.proofs.LaggingRefresh.{Grounded, grounded_past}
 use Rattle.dm_model.proofs.VectorFacts.{long_raised}

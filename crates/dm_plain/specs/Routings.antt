@@ -1,10 +1,10 @@
 -- What code keeps of a Route.
 use Rattle.std.specs.Prelude.{ℕ, ◌==◌, Option, option_map}
+use Rattle.dm_event.specs.Txns.{same_txn}
 use Rattle.dm_event.specs.declared.step.Step.{Step}
 use Rattle.dm_event.specs.declared.step.TxnId.{TxnId}
 use Rattle.dm_event.specs.declared.step.Want.{Want}
 use Rattle.dm_model.specs.Attempts.{Routing, routing_of}
-use Rattle.dm_model.specs.Tests.{same_txn}
 use Rattle.dm_plain.specs.declared.attempts.Sent.{Sent}
 
 -- the Route without what it wants

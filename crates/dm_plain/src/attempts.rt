@@ -2,9 +2,9 @@
 
 ghost use Rattle.std.specs.Prelude.{◌≡◌, ◌==◌, ◌≤◌, length, reverse, option_map, option_copied, is_some, false};
 ghost use Rattle.std.specs.Option.{option_map_or};
+ghost use Rattle.dm_event.specs.Txns.{same_txn};
 ghost use Rattle.dm_event.specs.declared.step.TxnId.{TxnId};
 ghost use Rattle.dm_model.specs.Attempts.{is_reply, replies, is_route, routes, last_routing, routing, wanted_keys, declared, state_by, dropped_at, dropped_by, state, attempt, is_routed, wants_txn, routed, routed_txn};
-ghost use Rattle.dm_model.specs.Tests.{same_txn};
 ghost use Rattle.dm_model.specs.Words.{since};
 ghost use Rattle.dm_plain.specs.Routings.{sent_of, sent_by, wanted_by, want_of, routed_by};
 

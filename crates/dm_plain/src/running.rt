@@ -2,10 +2,11 @@
 
 ghost use Rattle.std.specs.Prelude.{◌≡◌, ◌==◌, ◌/◌, reverse};
 ghost use Rattle.std.specs.List.{list_any};
+ghost use Rattle.dm_event.specs.Txns.{same_txn};
 ghost use Rattle.dm_model.specs.Allowed.{common_key, holder, runner};
 ghost use Rattle.dm_model.specs.Choices.{parts_in_order};
 ghost use Rattle.dm_model.specs.Runs.{runs_after, runs, begun_at, run_site, begin_of, begin_vector, last_begin};
-ghost use Rattle.dm_model.specs.Tests.{same_txn, is_among};
+ghost use Rattle.dm_model.specs.Tests.{is_among};
 ghost use Rattle.dm_plain.specs.Adding.{held_by, run_by};
 
 use crate::attempts::{declared, same_txn};

@@ -1,8 +1,7 @@
 //! Vectors compared.
 
 ghost use Rattle.std.specs.Prelude.{◌≡◌};
-ghost use Rattle.dm_event.specs.Vectors.{first_above, is_at_most};
-ghost use Rattle.dm_model.specs.Tests.{same_numbers};
+ghost use Rattle.dm_event.specs.Vectors.{first_above, is_at_most, same_numbers};
 
 use dm_event::{Schema, SiteNo, Vector};
 

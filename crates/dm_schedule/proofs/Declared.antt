@@ -5,9 +5,8 @@ use Rattle.std.specs.Option.{ok_or}
 use Rattle.std.specs.List.{list_all}
 use Rattle.std.proofs.lemmas.List.Sums.{AllPass-from_list_all}
 use Rattle.std.proofs.lemmas.Bool.{ltb-true}
-use Rattle.dm_event.specs.Layout.{Layout, key_count}
+use Rattle.dm_event.specs.Layout.{Layout, key_count, is_key}
 use Rattle.dm_event.specs.Ascending.{ascending, with_key}
-use Rattle.dm_model.specs.Shape.{is_key}
 use Rattle.dm_schedule.specs.Ranges.{are_keys}
 
 both : (a b : Bool) → (a && b) ≡ true → (a ≡ true) × (b ≡ true)

@@ -1,10 +1,9 @@
 -- The ranges of the numbers of a line.
 use Rattle.std.specs.Prelude.{ℕ, ◌<◌, ◌≤◌, List, length, Bool, Option, Some, None, All}
 use Rattle.std.specs.List.{list_all}
-use Rattle.dm_event.specs.Layout.{Layout, key_count}
+use Rattle.dm_event.specs.Layout.{Layout, key_count, is_key}
 use Rattle.dm_event.specs.declared.step.Want.{Want}
 use Rattle.dm_event.specs.declared.step.Want.TheVariants.{Txn, Place, Restart}
-use Rattle.dm_model.specs.Shape.{is_key}
 use Rattle.dm_schedule.specs.declared.line.Line.{Line}
 use Rattle.dm_schedule.specs.declared.line.Line.TheVariants.{Route, Begin, Get, Put, Add, Commit, Reply, Refresh}
 

@@ -3,7 +3,7 @@
 use Rattle.std.specs.Prelude.{ℕ, ℤ, ◌+◌, ◌-◌, ◌^◌, List, [], length, drop, Option, Some, None, Result, Ok, Err, Bool, true, ◌==◌, ◌&&◌, ◌||◌, nat_le, codes, if◌then◌else◌}
 use Rattle.std.specs.Str.{bytes_eq}
 use Rattle.dm_event.specs.Ascending.{ascending}
-use Rattle.dm_event.specs.Layout.{Layout, within_limits, is_between}
+use Rattle.dm_event.specs.Layout.{Layout, within_limits, is_between, is_site, is_key}
 use Rattle.dm_event.specs.declared.schema.Weights.{Weights}
 use Rattle.dm_event.specs.declared.step.Want.TheVariants as want
 use Rattle.dm_event.specs.declared.why.LineFault.{LineFault}
@@ -13,7 +13,6 @@ use Rattle.dm_schedule.specs.declared.line.Line.{Line}
 use Rattle.dm_schedule.specs.declared.line.Line.TheVariants as line
 use Rattle.dm_schedule.specs.Fields.{Words, ◌>>=◌, made, check, or_fault, word_at, fixed, counted, u8_at, u16_at, u32_at, i64_at, numbers_from}
 use Rattle.dm_schedule.specs.Ranges.{are_keys}
-use Rattle.dm_model.specs.Shape.{is_site, is_key}
 
 -- the fixed words of a header
 unfoldable pub header_words : Words → Result (Unit {0}) LineFault

@@ -1,9 +1,8 @@
 //! What a line says, by its words.
 
 ghost use Rattle.std.specs.Prelude.{◌≡◌, ◌≤◌, ◌<◌, All, IfOk, OnOk, IsTrue, length, drop};
-ghost use Rattle.dm_event.specs.Layout.{is_between, is_layout, key_count};
+ghost use Rattle.dm_event.specs.Layout.{is_between, is_layout, key_count, is_site, is_key};
 ghost use Rattle.dm_schedule.specs.Fields.{Gives, spelled};
-ghost use Rattle.dm_model.specs.Shape.{is_site, is_key};
 ghost use Rattle.dm_schedule.specs.Ranges.{Fits, IsSession, are_keys};
 ghost use Rattle.dm_schedule.specs.Reading.{header_words, header_count, header_of, is_for_parts, declared_of, route_count, route_of, session_of, get_of, write_of, refresh_of, line_of};
 

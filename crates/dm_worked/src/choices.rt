@@ -2,7 +2,7 @@
 
 ghost use Rattle.std.specs.List.{list_all};
 ghost use Rattle.std.specs.Prelude.{◌≡◌};
-ghost use Rattle.dm_model.specs.Shape.{is_key};
+ghost use Rattle.dm_event.specs.Layout.{is_key};
 
 use crate::steps::{ask_for, book, by_hand, first_of, keys, push, refused, route, vector};
 use dm_core::Book;

@@ -1,12 +1,12 @@
 use Rattle.std.proofs.Common.{◌≡◌, true, false, List, sym, ◌∙◌, subst}
 use Rattle.std.proofs.lemmas.Bool.{false≢true}
 use Rattle.std.specs.Prelude.{reverse, IsNone}
+use Rattle.dm_event.specs.Layout.{is_site}
 use Rattle.dm_core.specs.Ledger.{Ledger, past}
 use Rattle.dm_core.proofs.Refreshes.{reaches_full}
 use Rattle.dm_event.specs.declared.step.Step.{Step}
 use Rattle.dm_model.specs.Doubts.{is_down}
 use Rattle.dm_model.specs.Progress.{full, site_vector}
-use Rattle.dm_model.specs.Shape.{is_site}
 use Rattle.dm_model.specs.Allowed.{next_refresh}
 use Rattle.dm_core.proofs.book.Book.next_refresh.Goals as goal
 
