@@ -8,6 +8,7 @@ ghost use Rattle.dm_history.specs.Whys.{why_text};
 use crate::line::StepText;
 use crate::reason::WhyText;
 use dm_event::{NoMemory, Step, Why};
+use dm_text::put_text;
 use std::alloc::Global;
 
 /// The line of a step, with its line feed.
@@ -21,7 +22,7 @@ pub fn print_step(alloc: Global, step: &Step) -> Result<Vec<u8>, NoMemory>
 pub fn put_step(alloc: Global, out: &mut Vec<u8>, step: &Step) -> Result<(), NoMemory>
     ensures { Appends result out.old.items out.new.items (step_text step.now) }
 {
-    Ok(out.extend_from_slice(StepText(step).to_string(alloc)?.as_bytes())?)
+    put_text(out, &StepText(step).to_string(alloc)?)
 }
 
 /// Why a step may not come, in words, with no line feed.
@@ -35,5 +36,5 @@ pub fn print_why(alloc: Global, why: &Why) -> Result<Vec<u8>, NoMemory>
 pub fn put_why(alloc: Global, out: &mut Vec<u8>, why: &Why) -> Result<(), NoMemory>
     ensures { Appends result out.old.items out.new.items (why_text why.now) }
 {
-    Ok(out.extend_from_slice(WhyText(why).to_string(alloc)?.as_bytes())?)
+    put_text(out, &WhyText(why).to_string(alloc)?)
 }

@@ -11,4 +11,4 @@ mod tests;
 pub use cutting::{lines_of, words};
 pub use iterating::Words;
 pub use numbers::{number, numbers_both_ways, put_number, put_signed, signed};
-pub use shown::{PairsText, TxnText, VectorText, put_pairs, put_txn, put_vector};
+pub use shown::{PairsText, TxnText, VectorText, put_pairs, put_text, put_txn, put_vector};

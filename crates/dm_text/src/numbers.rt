@@ -5,6 +5,7 @@ ghost use Rattle.std.specs.Fmt.{decimal, signed_decimal};
 ghost use Rattle.std.specs.Int.{w64};
 ghost use Rattle.dm_text.specs.Text.{Appends, number_of, begins_number, signed_of};
 
+use crate::shown::put_text;
 use dm_event::NoMemory;
 use std::alloc::Global;
 use std::str;
@@ -55,25 +56,18 @@ pub fn signed(word: &[u8]) -> Option<i64>
     }
 }
 
-// Appends a text.
-pub(crate) fn append(out: &mut Vec<u8>, text: &str) -> Result<(), NoMemory>
-    ensures { Appends result out.old.items out.new.items text.now }
-{
-    Ok(out.extend_from_slice(text.as_bytes())?)
-}
-
 /// Appends the canonical text of a number.
 pub fn put_number(alloc: Global, out: &mut Vec<u8>, n: u64) -> Result<(), NoMemory>
     ensures { Appends result out.old.items out.new.items (decimal n) }
 {
-    append(out, &n.to_string(alloc)?)
+    put_text(out, &n.to_string(alloc)?)
 }
 
 /// Appends the canonical text of a signed number.
 pub fn put_signed(alloc: Global, out: &mut Vec<u8>, n: i64) -> Result<(), NoMemory>
     ensures { Appends result out.old.items out.new.items (signed_decimal n) }
 {
-    append(out, &n.to_string(alloc)?)
+    put_text(out, &n.to_string(alloc)?)
 }
 
 /// What is read of a written number is that number, and no other word is read as it.

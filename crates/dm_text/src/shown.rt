@@ -4,7 +4,6 @@ ghost use Rattle.std.specs.Prelude.{Some};
 ghost use Rattle.dm_text.specs.Text.{Appends};
 ghost use Rattle.dm_text.specs.Texts.{txn_text, vector_text, pair_text, pairs_text};
 
-use crate::numbers::append;
 use dm_event::{NoMemory, Pair, Pairs, TxnId, Vector};
 use std::alloc::Global;
 use std::fmt;
@@ -86,23 +85,30 @@ impl fmt::Display for PairsText<'_> {
     }
 }
 
+/// Appends a text.
+pub fn put_text(out: &mut Vec<u8>, text: &str) -> Result<(), NoMemory>
+    ensures { Appends result out.old.items out.new.items text.now }
+{
+    Ok(out.extend_from_slice(text.as_bytes())?)
+}
+
 /// Appends a transaction's text.
 pub fn put_txn(alloc: Global, out: &mut Vec<u8>, txn: &TxnId) -> Result<(), NoMemory>
     ensures { Appends result out.old.items out.new.items (txn_text txn.now) }
 {
-    append(out, &TxnText(txn).to_string(alloc)?)
+    put_text(out, &TxnText(txn).to_string(alloc)?)
 }
 
 /// Appends a vector's text.
 pub fn put_vector(alloc: Global, out: &mut Vec<u8>, vector: &Vector) -> Result<(), NoMemory>
     ensures { Appends result out.old.items out.new.items (vector_text vector.now) }
 {
-    append(out, &VectorText(vector).to_string(alloc)?)
+    put_text(out, &VectorText(vector).to_string(alloc)?)
 }
 
 /// Appends the text of pairs.
 pub fn put_pairs(alloc: Global, out: &mut Vec<u8>, pairs: &Pairs) -> Result<(), NoMemory>
     ensures { Appends result out.old.items out.new.items (pairs_text pairs.now) }
 {
-    append(out, &PairsText(pairs).to_string(alloc)?)
+    put_text(out, &PairsText(pairs).to_string(alloc)?)
 }
