@@ -2,6 +2,7 @@
 use Rattle.std.proofs.Common.{◌≤◌, ◌≡◌, Bool, true, false, List, [], ◌∷◌, ◌++◌, length, Option, Some, None, refl, subst, arith}
 use Rattle.std.proofs.lemmas.List.{length-append}
 use Rattle.std.specs.Prelude.{if◌then◌else◌, option_map, unwrap_or}
+use Rattle.dm_event.specs.declared.limits.TheConstants.{MAX_SESSIONS}
 use Rattle.dm_event.specs.declared.step.TxnId.{TxnId}
 use Rattle.dm_locks.proofs.Answers.{got_from}
 use Rattle.dm_locks.proofs.Sound.{few_claims, gives_back, got_holds, got_moves, waits_more}
@@ -19,8 +20,8 @@ asked_sound locks claim h may = by_answer (is_got (answer claim.keys (everyone l
   where
     by_answer : (b : Bool) → is_got (answer claim.keys (everyone locks)) ≡ b
         → Sound (if b then record locks { holders = locks.holders ++ claim ∷ [] } else record locks { waiters = locks.waiters ++ claim ∷ [] })
-    by_answer true e = got_holds claim locks.holders locks.waiters h (may.0, may.1) may.2 (got_from (answer claim.keys (everyone locks)) e)
-    by_answer false e = waits_more claim locks.holders locks.waiters h (may.0, may.1) may.2
+    by_answer true e = got_holds claim locks.holders locks.waiters h may.session may.no_claim (got_from (answer claim.keys (everyone locks)) e)
+    by_answer false e = waits_more claim locks.holders locks.waiters h may.session may.no_claim
 
 polled_sound : (locks : Locks) (txn : TxnId) → Sound locks → Sound (polled locks txn)
 polled_sound locks txn h = by_answer (is_got (answer_at_poll locks txn)) refl
@@ -44,9 +45,9 @@ run_sound locks [] h r = h
 run_sound locks (call ∷ calls) h r = run_sound (after locks call) calls (after_sound locks call h r.0) r.1
 
 pub reached_sound : (locks : Locks) → Reached locks → Sound locks
-reached_sound locks r = subst (λ (l : Locks). Sound l) r.2 (run_sound no_locks r.0 nothing_sound r.1)
+reached_sound locks r = subst (λ (l : Locks). Sound l) r.leaves (run_sound no_locks r.calls nothing_sound r.run)
 
-pub reached_few : (locks : Locks) → Reached locks → length (everyone locks) ≤ 32
+pub reached_few : (locks : Locks) → Reached locks → length (everyone locks) ≤ MAX_SESSIONS
 reached_few locks r =
     let l = few_claims locks (reached_sound locks r) in
     let e = length-append locks.holders locks.waiters in

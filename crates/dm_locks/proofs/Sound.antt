@@ -4,6 +4,7 @@ use Rattle.std.proofs.lemmas.Bool.{and_parts, eqb-true}
 use Rattle.std.proofs.lemmas.List.{length-append}
 use Rattle.std.specs.List.{AllByRecursion as Each, filter, position_or_len, remove}
 use Rattle.std.specs.Prelude.{IsSome, find, Option, option_map, unwrap_or}
+use Rattle.dm_event.specs.declared.limits.TheConstants.{MAX_SESSIONS}
 use Rattle.dm_event.specs.declared.step.TxnId.{TxnId}
 use Rattle.dm_locks.proofs.Answers.{got_shares_none}
 use Rattle.dm_locks.proofs.Counts.{count-append, count-filter, count_none, count_weaker, each_both, each_filter, each_parts, few}
@@ -19,9 +20,9 @@ use Rattle.dm_model.specs.Allowed.{common_key}
 use Rattle.dm_model.specs.Tests.{is_among}
 use Rattle.dm_model.specs.Words.{count_of}
 
-pub few_claims : (locks : Locks) → Sound locks → length locks.holders + length locks.waiters ≤ 32
+pub few_claims : (locks : Locks) → Sound locks → length locks.holders + length locks.waiters ≤ MAX_SESSIONS
 few_claims locks h =
-    let l : length (everyone locks) ≤ 32 = few (λ (claim : Claim). claim.txn.session) 32 (everyone locks) h.in_range h.one_claim in
+    let l : length (everyone locks) ≤ MAX_SESSIONS = few (λ (claim : Claim). claim.txn.session) MAX_SESSIONS (everyone locks) h.in_range h.one_claim in
     let e = length-append locks.holders locks.waiters in
     omega arith
 

@@ -1,8 +1,9 @@
 -- Whole runs of calls.
-use Rattle.std.specs.Prelude.{ℕ, ◌≡◌, ◌≤◌, List, [], ◌∷◌, Some, IsSome, IsTrue}
+use Rattle.std.specs.Prelude.{ℕ, ◌≡◌, List, [], ◌∷◌, Some, IsSome, IsTrue}
 use Rattle.dm_event.specs.declared.step.TxnId.{TxnId}
 use Rattle.dm_locks.specs.Claims.{claim_of, has_key, is_of_session}
 use Rattle.dm_locks.specs.Locks.{Locks, asked, everyone, given_back, no_locks, polled}
+use Rattle.dm_locks.specs.Sound.{InRange}
 use Rattle.dm_locks.specs.declared.claim.Claim.{Claim}
 use Rattle.dm_model.specs.Words.{count_of}
 
@@ -24,9 +25,14 @@ abbrev pub after_all : Locks → List Call → Locks
 after_all locks [] = locks
 after_all locks (call ∷ calls) = after_all (after locks call) calls
 
--- who asks is of a session 1 to 32 that has no claim, and who polls waits
+-- who asks is of a session that has no claim
+pub record MayAsk (locks : Locks) (claim : Claim) : Type 0 where
+  pub session : InRange claim
+  pub no_claim : count_of (is_of_session claim.txn.session) (everyone locks) ≡ 0
+
+-- who polls waits
 abbrev pub MayCall : Locks → Call → Type 0
-MayCall locks (Ask claim) = (1 ≤ claim.txn.session) × (claim.txn.session ≤ 32) × (count_of (is_of_session claim.txn.session) (everyone locks) ≡ 0)
+MayCall locks (Ask claim) = MayAsk locks claim
 MayCall locks (Poll txn) = IsSome (claim_of txn locks.waiters)
 MayCall locks (GiveBack txn) = Unit {0}
 MayCall locks Clear = Unit {0}
@@ -37,8 +43,10 @@ IsRun locks [] = Unit {0}
 IsRun locks (call ∷ calls) = MayCall locks call × IsRun (after locks call) calls
 
 -- a table that a run of calls leaves of a new one
-abbrev pub Reached : Locks → Type 0
-Reached locks = (calls : List Call) × IsRun no_locks calls × (after_all no_locks calls ≡ locks)
+pub record Reached (locks : Locks) : Type 0 where
+  pub calls : List Call
+  pub run : IsRun no_locks calls
+  pub leaves : after_all no_locks calls ≡ locks
 
 -- the claim waits
 abbrev pub IsWaiting : Locks → Claim → Type 0

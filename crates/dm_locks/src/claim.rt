@@ -2,7 +2,6 @@
 
 ghost use Rattle.std.specs.Prelude.{◌≡◌, ◌++◌};
 ghost use Rattle.std.specs.List.Sorted.{IsStrictlyIncreasing};
-ghost use Rattle.dm_event.specs.Txns.{same_txn};
 ghost use Rattle.dm_model.specs.Allowed.{common_key};
 ghost use Rattle.dm_locks.specs.Claims.{answer};
 
@@ -15,12 +14,6 @@ use std::cmp::Ordering;
 pub struct Claim {
     pub txn: TxnId,
     pub keys: Keys,
-}
-
-pub(crate) fn same_txn(a: TxnId, b: TxnId) -> bool
-    ensures { result ≡ same_txn a b }
-{
-    a.session == b.session && (a.number == b.number && a.attempt == b.attempt)
 }
 
 /// The least key of both lists, found in one pass over both.

@@ -2,6 +2,7 @@
 
 ghost use Rattle.std.specs.Prelude.{ℕ, ◌≡◌, ◌≤◌, ◌↔◌, List, [], ◌∷◌, ◌++◌, Contains, length, map};
 ghost use Rattle.std.specs.List.Sorted.{IsStrictlyIncreasing};
+ghost use Rattle.dm_event.specs.declared.limits.TheConstants.{MAX_SESSIONS};
 ghost use Rattle.dm_event.specs.declared.step.TxnId.{TxnId};
 ghost use Rattle.dm_model.specs.Words.{count_of};
 ghost use Rattle.dm_locks.specs.Calls.{Call, GiveBack, after_all, Reached, Share, IsWaiting, WaitsOn};
@@ -20,11 +21,11 @@ pub fn answers_tell_the_first()
 {}
 
 /// At each moment a key has one holder at most, a session has one claim at most, and so there are at
-/// most 32 claims.
+/// most as many claims as there are sessions.
 pub fn one_holder_a_key()
     ensures one_holder { (locks : Locks) → Reached locks → (key : ℕ) → count_of (has_key key) locks.holders ≤ 1 }
     ensures one_claim { (locks : Locks) → Reached locks → (session : ℕ) → count_of (is_of_session session) (everyone locks) ≤ 1 }
-    ensures few { (locks : Locks) → Reached locks → length (everyone locks) ≤ 32 }
+    ensures few { (locks : Locks) → Reached locks → length (everyone locks) ≤ MAX_SESSIONS }
 {}
 
 /// As long as a claim waits, whatever calls are made: whoever holds a key of it was ahead of it from the

@@ -6,16 +6,13 @@ ghost use Rattle.dm_model.specs.Words.{count_of};
 ghost use Rattle.dm_locks.specs.Claims.{answer, claim_of, is_of, is_of_session, without};
 ghost use Rattle.dm_locks.specs.Locks.{no_locks, everyone, asked, answer_at_poll, polled, given_back};
 
-use crate::claim::{Claim, answer_beside, same_txn};
-use dm_event::{Key, Keys, NoMemory, TxnId};
+use crate::claim::{Claim, answer_beside};
+use dm_event::{Key, Keys, MAX_SESSIONS, NoMemory, TxnId};
 use std::alloc::Global;
 use std::marker::Model;
 
 #[cfg(test)]
 mod tests;
-
-/// The most sessions, each of which holds or waits once at most.
-const MOST_SESSIONS: usize = 32;
 
 /// What one who asks for keys is answered.
 #[derive(Clone, Copy, Debug, PartialEq, Eq)]
@@ -46,20 +43,20 @@ impl Model for LockTable {
 }
 
 impl LockTable {
-    /// Nobody holds, and nobody waits. It takes the memory for 32 sessions at once, so that no later
-    /// call needs any.
+    /// Nobody holds, and nobody waits. A session holds or waits once at most: the memory for all of
+    /// them is taken at once, so that no later call needs any.
     pub fn new(alloc: Global) -> Result<LockTable, NoMemory>
         ensures { IfOk result (λ table. table ≡ no_locks) }
     {
         Ok(LockTable {
-            holders: Vec::with_capacity(alloc, MOST_SESSIONS)?,
-            waiters: Vec::with_capacity(alloc, MOST_SESSIONS)?,
+            holders: Vec::with_capacity(alloc, MAX_SESSIONS as usize)?,
+            waiters: Vec::with_capacity(alloc, MAX_SESSIONS as usize)?,
         })
     }
 
     /// Asks for the keys: the transaction holds them from now on, or is the last waiter.
     pub fn ask(&mut self, txn: TxnId, keys: Keys) -> LockAnswer
-        requires session { (1 ≤ txn.session) × (txn.session ≤ 32) }
+        requires session { (1 ≤ txn.session) × (txn.session ≤ MAX_SESSIONS) }
         requires no_claim { count_of (is_of_session txn.session) (everyone self.old) ≡ 0 }
         ensures answer { result ≡ answer keys (everyone self.old) }
         ensures locks { self.new ≡ asked self.old (record { txn = txn; keys = keys }) }
@@ -67,8 +64,8 @@ impl LockTable {
         let answer = answer_beside(&keys, &self.holders, &self.waiters);
         let claim = Claim { txn, keys };
         match answer {
-            LockAnswer::Got => append(&mut self.holders, claim),
-            LockAnswer::Waits { .. } => append(&mut self.waiters, claim),
+            LockAnswer::Got => self.holders.push_reserved(claim),
+            LockAnswer::Waits { .. } => self.waiters.push_reserved(claim),
         }
         answer
     }
@@ -81,7 +78,7 @@ impl LockTable {
     {
         let (at, answer) = answer_in_line(&self.holders, &self.waiters, txn);
         match answer {
-            LockAnswer::Got => append(&mut self.holders, self.waiters.remove(at)),
+            LockAnswer::Got => self.holders.push_reserved(self.waiters.remove(at)),
             LockAnswer::Waits { .. } => {}
         }
         answer
@@ -124,7 +121,7 @@ impl LockTable {
 fn has_claim(claims: &[Claim], txn: TxnId) -> bool
     ensures { result ≡ list_any (is_of txn) claims.now }
 {
-    claims.iter().any(|claim| same_txn(claim.txn, txn))
+    claims.iter().any(|claim| claim.txn.same(&txn))
 }
 
 /// Where the waiter stands, and what it is answered for those ahead of it.
@@ -146,7 +143,7 @@ fn place(claims: &[Claim], txn: TxnId) -> usize
 {
     claims
         .iter()
-        .take_while(|claim| !same_txn(claim.txn, txn))
+        .take_while(|claim| !claim.txn.same(&txn))
         .count()
 }
 
@@ -155,16 +152,5 @@ fn take_out(claims: &mut Vec<Claim>, txn: TxnId)
     ensures items { claims.new.items ≡ without txn claims.old.items }
     ensures capacity { vec_capacity claims.new ≡ vec_capacity claims.old }
 {
-    claims.retain(|claim| !same_txn(claim.txn, txn));
-}
-
-/// Appends to a list that has room.
-fn append(claims: &mut Vec<Claim>, claim: Claim)
-    requires { vec_len claims.old < vec_capacity claims.old }
-    ensures items { claims.new.items ≡ claims.old.items ++ claim ∷ [] }
-    ensures capacity { vec_capacity claims.old ≤ vec_capacity claims.new }
-{
-    if claims.push(claim).is_err() {
-        unreachable!()
-    }
+    claims.retain(|claim| !claim.txn.same(&txn));
 }

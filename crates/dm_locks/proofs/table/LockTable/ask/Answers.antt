@@ -8,8 +8,8 @@ use Rattle.dm_locks.specs.declared.table.LockAnswer.TheVariants.{Got}
 use Rattle.dm_model.specs.Words.{count_of}
 use Rattle.dm_locks.proofs.table.LockTable.ask.Goals as goal
 
-pub append-requires : goal.append-requires
-append-requires c =
+pub push_reserved-requires : goal.push_reserved-requires
+push_reserved-requires c =
     let hs = c.self.inside.holders.items in
     let ws = c.self.inside.waiters.items in
     let claim : Claim = record { txn = c.args.txn; keys = c.args.keys } in
@@ -30,13 +30,13 @@ invariant_of-self c =
     let free : count_of (is_of_session c.args.txn.session) (hs ++ ws) ≡ 0 = ap (λ (locks : Locks). count_of (is_of_session c.args.txn.session) (everyone locks)) c.self.view_is ∙ c.requires.no_claim in
     let s = got_holds claim hs ws c.self.invariant.sound c.requires.session free got in
     record {
-      sound = rw (c.append.ensures.items) s;
-      holders = omega (arith, c.append.ensures.capacity, c.self.invariant.holders);
+      sound = rw (c.push_reserved.ensures.items) s;
+      holders = omega (arith, c.push_reserved.ensures.capacity, c.self.invariant.holders);
       waiters = c.self.invariant.waiters;
     }
 
-pub append-requires-in-Waits : goal.append-requires-in-Waits
-append-requires-in-Waits c =
+pub push_reserved-requires-in-Waits : goal.push_reserved-requires-in-Waits
+push_reserved-requires-in-Waits c =
     let hs = c.self.inside.holders.items in
     let ws = c.self.inside.waiters.items in
     let claim : Claim = record { txn = c.args.txn; keys = c.args.keys } in
@@ -55,7 +55,7 @@ invariant_of-self-in-Waits c =
     let free : count_of (is_of_session c.args.txn.session) (hs ++ ws) ≡ 0 = ap (λ (locks : Locks). count_of (is_of_session c.args.txn.session) (everyone locks)) c.self.view_is ∙ c.requires.no_claim in
     let s = waits_more claim hs ws c.self.invariant.sound c.requires.session free in
     record {
-      sound = rw (c.append-in-Waits.ensures.items) s;
+      sound = rw (c.push_reserved-in-Waits.ensures.items) s;
       holders = c.self.invariant.holders;
-      waiters = omega (arith, c.append-in-Waits.ensures.capacity, c.self.invariant.waiters);
+      waiters = omega (arith, c.push_reserved-in-Waits.ensures.capacity, c.self.invariant.waiters);
     }

@@ -8,8 +8,8 @@ use Rattle.dm_locks.specs.declared.claim.Claim.{Claim}
 use Rattle.dm_locks.specs.declared.table.LockAnswer.TheVariants.{Got}
 use Rattle.dm_locks.proofs.table.LockTable.poll.Goals as goal
 
-pub append-requires : goal.append-requires
-append-requires c =
+pub push_reserved-requires : goal.push_reserved-requires
+push_reserved-requires c =
     let few = few_claims (record { holders = c.self.inside.holders.items; waiters = c.self.inside.waiters.items }) c.self.invariant.sound in
     let within = c.answer_in_line-at.ensures.within in
     let hs : length c.self.inside.holders.items ≡ vec_len c.self.inside.holders = sym (ap length c.deref.ensures.value) ∙ c.deref.ensures.len in
@@ -27,8 +27,8 @@ invariant_of-self c =
     sym (c.answer_in_line-at.ensures.answer ∙ ap (λ (xs : List Claim). answer_at_poll (record { holders = xs; waiters = c.deref-2.result.now }) c.args.txn) c.deref.ensures.value
     ∙ ap (λ (xs : List Claim). answer_at_poll (record { holders = hs; waiters = xs }) c.args.txn) c.deref-2.ensures.value) ∙ c.in-Got.is in
     record {
-      sound = (moved_by c.args.txn c.remove.result c.answer_in_line-at.result.0 hs ws c.append.new.claims.items c.remove.new.self.items c.self.invariant.sound waits got place c.remove.ensures.value c.append.ensures.items c.remove.ensures.items).sound;
-      holders = omega (arith, c.append.ensures.capacity, c.self.invariant.holders);
+      sound = (moved_by c.args.txn c.remove.result c.answer_in_line-at.result.0 hs ws c.push_reserved.new.self.items c.remove.new.self.items c.self.invariant.sound waits got place c.remove.ensures.value c.push_reserved.ensures.items c.remove.ensures.items).sound;
+      holders = omega (arith, c.push_reserved.ensures.capacity, c.self.invariant.holders);
       waiters = omega (arith, c.remove.ensures.capacity, c.self.invariant.waiters);
     }
 
@@ -41,5 +41,5 @@ returns-in-Got-clause-locks c =
     let got : answer_at_poll (record { holders = hs; waiters = ws }) c.args.txn ≡ Got =
     sym (c.answer_in_line-at.ensures.answer ∙ ap (λ (xs : List Claim). answer_at_poll (record { holders = xs; waiters = c.deref-2.result.now }) c.args.txn) c.deref.ensures.value
     ∙ ap (λ (xs : List Claim). answer_at_poll (record { holders = hs; waiters = xs }) c.args.txn) c.deref-2.ensures.value) ∙ c.in-Got.is in
-    (moved_by c.args.txn c.remove.result c.answer_in_line-at.result.0 hs ws c.append.new.claims.items c.remove.new.self.items c.self.invariant.sound waits got place c.remove.ensures.value c.append.ensures.items c.remove.ensures.items).polled
+    (moved_by c.args.txn c.remove.result c.answer_in_line-at.result.0 hs ws c.push_reserved.new.self.items c.remove.new.self.items c.self.invariant.sound waits got place c.remove.ensures.value c.push_reserved.ensures.items c.remove.ensures.items).polled
     ∙ ap (λ (locks : Locks). polled locks c.args.txn) c.self.view_is
