@@ -4,7 +4,7 @@ ghost use Rattle.std.specs.Prelude.{◌≡◌, ◌≤◌, length, IfOk};
 ghost use Rattle.dm_model.specs.Bodies.{body as body_of, first_undeclared, has_writes, written_key};
 
 use crate::{Overlay, Ran, View};
-use dm_event::{Body, Key, NoMemory, Op};
+use dm_event::{Body, Key, MAX_OPS, NoMemory, Op};
 use std::alloc::Global;
 
 /// The key of the first write or addition whose key is not declared.
@@ -41,7 +41,7 @@ pub(crate) fn written_key(op: &Op) -> Option<Key>
 
 /// Does the whole body, op by op.
 pub fn run<V: View>(alloc: Global, body: &Body, view: &mut V) -> Result<Ran, NoMemory>
-    requires { length body.now.ops ≤ 64 }
+    requires { length body.now.ops ≤ MAX_OPS }
     ensures ops { IfOk result (λ ran. ran.ops ≡ body.now.ops) }
     ensures reads { IfOk result (λ ran. ran.reads ≡ (body_of body.now.ops (V.values view.old)).reads) }
     ensures writes { IfOk result (λ ran. ran.writes ≡ (body_of body.now.ops (V.values view.old)).writes) }

@@ -5,13 +5,10 @@ ghost use Rattle.dm_body.specs.Progress.{nothing_done, turn};
 ghost use Rattle.dm_body.specs.Answer.{answer_of};
 
 use crate::View;
-use crate::writes::{append, put, seen};
-use dm_event::{NoMemory, Op, Ops, Pair, Pairs, Value};
+use crate::writes::{put, seen};
+use dm_event::{MAX_OPS, NoMemory, Op, Ops, Pair, Pairs, Value};
 use std::alloc::Global;
 use std::marker::Model;
-
-/// The most ops of a transaction.
-const MOST_OPS: usize = 64;
 
 /// What an op answers.
 #[derive(Clone, Copy, Debug, PartialEq, Eq)]
@@ -20,7 +17,7 @@ pub enum OpResult {
     Value(Value),
     /// Written.
     Done,
-    /// There are 64 ops already, and this one is not done.
+    /// There are as many ops as there may be, and this one is not done.
     Full,
 }
 
@@ -57,36 +54,36 @@ impl Model for Overlay {
 }
 
 impl Overlay {
-    /// No op so far. It takes the memory for 64 ops at once, so that no later call needs any.
+    /// No op so far. It takes the memory for all ops at once, so that no later call needs any.
     pub fn new(alloc: Global) -> Result<Overlay, NoMemory>
         ensures { IfOk result (λ overlay. overlay ≡ nothing_done) }
     {
         Ok(Overlay {
-            ops: Vec::with_capacity(alloc, MOST_OPS)?,
-            reads: Vec::with_capacity(alloc, MOST_OPS)?,
-            writes: Vec::with_capacity(alloc, MOST_OPS)?,
+            ops: Vec::with_capacity(alloc, MAX_OPS)?,
+            reads: Vec::with_capacity(alloc, MAX_OPS)?,
+            writes: Vec::with_capacity(alloc, MAX_OPS)?,
         })
     }
 
     /// Does the op: a read answers the own write of the key, else the view's value, and an addition
     /// wraps at 64 bits. It takes no memory.
     pub fn op<V: View>(&mut self, op: &Op, view: &mut V) -> OpResult
-        ensures answer { length self.old.ops < 64 → result ≡ answer_of (V.values view.old) self.old.ran op.now }
-        ensures turn { length self.old.ops < 64 → self.new ≡ turn (V.values view.old) self.old op.now }
+        ensures answer { length self.old.ops < MAX_OPS → result ≡ answer_of (V.values view.old) self.old.ran op.now }
+        ensures turn { length self.old.ops < MAX_OPS → self.new ≡ turn (V.values view.old) self.old op.now }
 
-        ensures full { (result ≡ OpResult.Full) ↔ (64 ≤ length self.old.ops) }
-        ensures unchanged { 64 ≤ length self.old.ops → self.new ≡ self.old }
+        ensures full { (result ≡ OpResult.Full) ↔ (MAX_OPS ≤ length self.old.ops) }
+        ensures unchanged { MAX_OPS ≤ length self.old.ops → self.new ≡ self.old }
 
         ensures values { V.values view.new ≡ V.values view.old }
     {
-        if self.ops.len() == MOST_OPS {
+        if self.ops.len() == MAX_OPS {
             return OpResult::Full;
         }
-        append(&mut self.ops, *op);
+        self.ops.push_reserved(*op);
         match *op {
             Op::Read { key } => {
                 let value = seen(&self.writes, key, view);
-                append(&mut self.reads, Pair { key, value });
+                self.reads.push_reserved(Pair { key, value });
                 OpResult::Value(value)
             }
             Op::Write { key, value } => {

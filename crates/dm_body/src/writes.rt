@@ -53,15 +53,3 @@ fn place(writes: &[Pair], key: Key) -> usize
 {
     writes.iter().take_while(|pair| pair.key < key).count()
 }
-
-/// Appends to a list that has room.
-pub(crate) fn append<T: Drop>(list: &mut Vec<T>, x: T)
-    requires { vec_len list.old < vec_capacity list.old }
-    ensures items { list.new.items ≡ list.old.items ++ x ∷ [] }
-    ensures len { vec_len list.new ≡ vec_len list.old + 1 }
-    ensures capacity { vec_capacity list.old ≤ vec_capacity list.new }
-{
-    if list.push(x).is_err() {
-        unreachable!()
-    }
-}

@@ -305,9 +305,6 @@ impl Book {
         ensures items { self.new.items ≡ self.old.items }
     {
         note(&self.schema, &mut self.window, &step);
-        match self.steps.push(step) {
-            Ok(()) => {}
-            Err(_) => unreachable!(),
-        }
+        self.steps.push_reserved(step);
     }
 }

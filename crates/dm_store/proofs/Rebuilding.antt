@@ -2,6 +2,7 @@
 use Rattle.std.proofs.Common.{ℕ, suc, nat_le, ◌&&◌, ◌≤◌, map, arith, true, ◌+◌, ◌<◌, ◌≡◌, List, [], ◌∷◌, ◌++◌, length, get_or, take, drop, sym, ap, subst, ◌∙◌, drop-cons}
 use Rattle.std.proofs.lemmas.Bool.{and_parts, leb-true}
 use Rattle.std.proofs.lemmas.List.{take_more}
+use Rattle.dm_event.specs.declared.limits.TheConstants.{MAX_KEYS}
 use Rattle.dm_event.specs.declared.step.Pair.{Pair}
 use Rattle.dm_model.specs.Shape.{is_ascending}
 use Rattle.dm_store.specs.Rising.{fits, may_install, is_above}
@@ -18,12 +19,12 @@ module _ (past : List Past) (i : ℕ) (t : Past) (l : i < length past) (read : t
 
 -- what fits, part by part
 pub record Parts (installed : List Past) (t : Past) : Type 0 where
-  pub few : length t.writes ≤ 32
+  pub few : length t.writes ≤ MAX_KEYS
   pub ascending : is_ascending (map (λ (p : Pair). p.key) t.writes) ≡ true
   pub rising : is_above installed t.origin t.seq ≡ true
 
 pub parts : (installed : List Past) (t : Past) → fits installed t ≡ true → Parts installed t
 parts installed t h =
-    let a = and_parts (nat_le (length t.writes) 32) (is_ascending (map (λ (p : Pair). p.key) t.writes) && is_above installed t.origin t.seq) h in
+    let a = and_parts (nat_le (length t.writes) MAX_KEYS) (is_ascending (map (λ (p : Pair). p.key) t.writes) && is_above installed t.origin t.seq) h in
     let b = and_parts (is_ascending (map (λ (p : Pair). p.key) t.writes)) (is_above installed t.origin t.seq) a.1 in
-    record { few = leb-true (length t.writes) 32 a.0; ascending = b.0; rising = b.1 }
+    record { few = leb-true (length t.writes) MAX_KEYS a.0; ascending = b.0; rising = b.1 }

@@ -1,5 +1,6 @@
 -- What a store's fields say.
 use Rattle.std.specs.Prelude.{◌≡◌, ◌*◌, ◌-◌, ◌≤◌, List, [], ◌∷◌, ◌++◌, map, take, drop, reverse, vec_len, vec_capacity}
+use Rattle.dm_event.specs.declared.limits.TheConstants.{MAX_KEYS}
 use Rattle.dm_store.specs.Contents.{Contents}
 use Rattle.dm_store.specs.Versions.{pair_of, version_by}
 use Rattle.dm_store.specs.declared.past.Past.{Past}
@@ -26,5 +27,5 @@ contents s = record { layout = s.schema; known = s.chains.known; installed = rev
 -- the versions are those of the transactions, and there is the room
 pub record IsStore (s : Inside) : Type 0 where
   pub whole : s.chains.versions ≡ versions_by (latest_first s)
-  pub room_for_versions : s.spare * 32 ≤ s.chains.room
+  pub room_for_versions : s.spare * MAX_KEYS ≤ s.chains.room
   pub room_for_installs : s.spare ≤ vec_capacity s.installed - vec_len s.installed

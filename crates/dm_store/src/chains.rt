@@ -78,13 +78,10 @@ impl Chains {
     {
         let place = self.links.len();
         match self.newest.insert(version.key, Some(place)) {
-            Ok(older) => append(
-                &mut self.links,
-                Link {
-                    version,
-                    older: older.flatten(),
-                },
-            ),
+            Ok(older) => self.links.push_reserved(Link {
+                version,
+                older: older.flatten(),
+            }),
             Err(_) => unreachable!(),
         }
     }
@@ -124,17 +121,5 @@ impl Chains {
             next = link.older;
         }
         None
-    }
-}
-
-/// Appends to a list that has room.
-fn append(links: &mut Vec<Link>, link: Link)
-    requires { vec_len links.old < vec_capacity links.old }
-    ensures items { links.new.items ≡ links.old.items ++ link ∷ [] }
-    ensures len { vec_len links.new ≡ vec_len links.old + 1 }
-    ensures capacity { vec_capacity links.old ≤ vec_capacity links.new }
-{
-    if links.push(link).is_err() {
-        unreachable!()
     }
 }

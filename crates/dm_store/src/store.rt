@@ -12,12 +12,9 @@ ghost use Rattle.dm_store.specs.Rising.{is_above, may_install};
 use crate::Past;
 use crate::chains::Chains;
 use crate::version::Installed;
-use dm_event::{Key, NoMemory, Pairs, Schema, SiteNo, Value, Vector};
+use dm_event::{Key, MAX_KEYS, NoMemory, Pairs, Schema, SiteNo, Value, Vector};
 use std::alloc::Global;
 use std::marker::Model;
-
-/// The most writes of a transaction, and so the places that are kept free for an install.
-const MOST_WRITES: usize = 32;
 
 /// The versions of the known keys, and the transactions that they came with.
 #[derive(Drop)]
@@ -113,7 +110,8 @@ impl Store {
         ensures enough { installs ≤ self.old.spare → IsOk result }
     {
         if self.spare < installs {
-            let versions = installs.checked_mul(MOST_WRITES).ok_or(NoMemory)?;
+            // A transaction writes no more keys than it declares.
+            let versions = installs.checked_mul(MAX_KEYS).ok_or(NoMemory)?;
             self.chains.reserve(versions)?;
             self.installed.reserve(installs)?;
             self.spare = installs;
@@ -123,7 +121,7 @@ impl Store {
 
     /// Installs a transaction behind those that are installed. It takes no memory.
     pub fn install(&mut self, origin: SiteNo, seq: u64, writes: &Pairs)
-        requires few { length writes.now ≤ 32 }
+        requires few { length writes.now ≤ MAX_KEYS }
         requires ascending { IsTrue (is_ascending (map (λ (p : Pair). p.key) writes.now)) }
         requires known { AreKnown self.old.known writes.now }
         requires room { 1 ≤ self.old.spare }
@@ -135,14 +133,11 @@ impl Store {
     {
         let pairs = writes.as_slice();
         self.chains.put_all(origin, seq, pairs);
-        append(
-            &mut self.installed,
-            Installed {
-                origin,
-                seq,
-                writes: pairs.len(),
-            },
-        );
+        self.installed.push_reserved(Installed {
+            origin,
+            seq,
+            writes: pairs.len(),
+        });
         self.spare -= 1;
     }
 
@@ -156,17 +151,5 @@ impl Store {
             Some(value) => value,
             None => self.schema.opening(key),
         }
-    }
-}
-
-/// Appends to a list that has room.
-fn append(installed: &mut Vec<Installed>, one: Installed)
-    requires { vec_len installed.old < vec_capacity installed.old }
-    ensures items { installed.new.items ≡ installed.old.items ++ one ∷ [] }
-    ensures len { vec_len installed.new ≡ vec_len installed.old + 1 }
-    ensures capacity { vec_capacity installed.old ≤ vec_capacity installed.new }
-{
-    if installed.push(one).is_err() {
-        unreachable!()
     }
 }

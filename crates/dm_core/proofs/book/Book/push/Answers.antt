@@ -10,7 +10,7 @@ invariant_of-self c =
     let layout = c.self.inside.schema in
     let before = c.self.inside.steps.items in
     record {
-      legal = longer_legal layout before c.push.new.self.items c.args.step c.in-Ok.ensures.items c.self.invariant.legal
+      legal = longer_legal layout before c.push_reserved.new.self.items c.args.step c.push_reserved.ensures.items c.self.invariant.legal
           (subst (λ (book : Ledger). Allowed book.layout (past book) c.args.step) (sym c.self.view_is) c.requires.allowed);
-      window = longer_window layout before c.push.new.self.items c.args.step c.in-Ok.ensures.items c.note.new.window (c.note.ensures (reverse before) c.self.invariant.window);
+      window = longer_window layout before c.push_reserved.new.self.items c.args.step c.push_reserved.ensures.items c.note.new.window (c.note.ensures (reverse before) c.self.invariant.window);
     }

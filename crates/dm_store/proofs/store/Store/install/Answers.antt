@@ -10,8 +10,8 @@ use Rattle.dm_store.proofs.store.Store.install.Goals as goal
 
 pub invariant_of-self : goal.invariant_of-self
 invariant_of-self c =
-    let new = pushed c.args.origin c.args.seq c.as_slice-pairs.result.now c.args.writes.now c.self.inside.installed.items c.append.new.installed.items
-    c.self.inside.chains.versions c.put_all.new.self.versions c.as_slice-pairs.ensures c.append.ensures.items c.put_all.ensures.versions in
+    let new = pushed c.args.origin c.args.seq c.as_slice-pairs.result.now c.args.writes.now c.self.inside.installed.items c.push_reserved.new.self.items
+    c.self.inside.chains.versions c.put_all.new.self.versions c.as_slice-pairs.ensures c.push_reserved.ensures.items c.put_all.ensures.versions in
     record {
       whole =
           c.put_all.ensures.versions
@@ -27,7 +27,7 @@ pub returns-clause-installed : goal.returns-clause-installed
 returns-clause-installed c =
     let t : Past = record { origin = c.args.origin; seq = c.args.seq; writes = c.args.writes.now } in
     ap (λ (ts : List Past). reverse ts)
-    (pushed c.args.origin c.args.seq c.as_slice-pairs.result.now c.args.writes.now c.self.inside.installed.items c.append.new.installed.items
-    c.self.inside.chains.versions c.put_all.new.self.versions c.as_slice-pairs.ensures c.append.ensures.items c.put_all.ensures.versions)
+    (pushed c.args.origin c.args.seq c.as_slice-pairs.result.now c.args.writes.now c.self.inside.installed.items c.push_reserved.new.self.items
+    c.self.inside.chains.versions c.put_all.new.self.versions c.as_slice-pairs.ensures c.push_reserved.ensures.items c.put_all.ensures.versions)
     ∙ last_in t (latest_first c.self.inside)
     ∙ ap (λ (w : Contents). w.installed ++ t ∷ []) c.self.view_is
