@@ -21,4 +21,4 @@ around layout session k = 1 + (session - 1 + k) % layout.sites
 
 -- that site has what the session has seen
 abbrev pub has_seen : Layout → List Step → ℕ → ℕ → Bool
-has_seen layout past session k = is_at_most layout.sites (session_vector layout.sites past session) (site_vector layout.sites past (around layout session k))
+has_seen layout past session k = is_at_most (session_vector layout.sites past session) (site_vector layout.sites past (around layout session k))

@@ -17,7 +17,7 @@ ghost use Rattle.dm_clauses.specs.Choosing.{is_settled, all_settled, around, has
 
 use dm_event::{Choice, Key, Part, PartSet, Placing, Schema, SiteNo, Step, Vector};
 use dm_placement::{Window, choices_due, choose};
-use dm_plain::{is_at_most, placing, session_vector, site_vector};
+use dm_plain::{placing, session_vector, site_vector};
 
 /// The set of the partitions of the keys.
 pub fn parts_of(schema: &Schema, keys: &[Key]) -> PartSet
@@ -155,7 +155,9 @@ fn has_seen(schema: &Schema, steps: &[Step], session: u32, place: u8) -> bool
     ensures { result ≡ has_seen schema.now (reverse steps.now) session place }
 {
     let own = site_vector(schema, steps, around(schema, session, place));
-    is_at_most(schema, &session_vector(schema, steps, session), &own)
+    session_vector(schema, steps, session)
+        .first_above(&own)
+        .is_none()
 }
 
 /// The first site, in a circle from the session's own on, that has what the session has seen, or the

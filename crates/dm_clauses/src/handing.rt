@@ -16,7 +16,7 @@ ghost use Rattle.dm_clauses.specs.Judging.{epoch_now};
 use crate::rows::{ask_refusal, grant_refusal, release_refusal, settle_refusal};
 use dm_event::{Choice, Part, Placing, Schema, SiteNo, Step, TxnId, Vector, Want, Why};
 use dm_plain::{
-    first_above, has_part, is_down, last_want, placing, routed, runner, site_vector, stands_routed,
+    has_part, is_down, last_want, placing, routed, runner, site_vector, stands_routed,
 };
 
 /// Whether the Route wants a hand-over of the partition.
@@ -38,8 +38,8 @@ fn is_wanted(schema: &Schema, steps: &[Step], part: Part, to: SiteNo, txn: TxnId
     ensures { result ≡ option_map_or (λ r. (r.site == to) && wants_part schema.now part r.choice r.want) (routed txn (reverse steps.now)) false }
 {
     match (routed(steps, txn), last_want(steps, txn.session)) {
-        (Some(sent), Some(want)) => {
-            sent.site == to && wants_part(schema, part, sent.choice, want)
+        (Some(routing), Some(want)) => {
+            routing.site == to && wants_part(schema, part, routing.choice, want)
         }
         _ => false,
     }
@@ -117,7 +117,7 @@ pub(crate) fn grant_why(
     grant_refusal(
         placing_in(schema, steps, part),
         is_down(steps, site),
-        first_above(schema, vector, &own),
+        vector.first_above(&own),
         site,
         epoch,
         vector,

@@ -30,7 +30,7 @@ use dm_event::{
 use dm_outcomes::may_say;
 use dm_placement::Window;
 use dm_plain::{
-    Reading, attempt, begin_vector, declared, entry_at, entry_count, first_above, holder, is_down,
+    Reading, attempt, begin_vector, declared, entry_at, entry_count, holder, is_down,
     may_begin_now, placing, reached, replies, routed_txn, routes, run_site, session_vector,
     site_vector, stands_routed,
 };
@@ -124,11 +124,11 @@ fn elsewhere(schema: &Schema, steps: &[Step], site: SiteNo, keys: &[Key]) -> Opt
 }
 
 /// The least component in which the minimum of the attempt's Route is above the begin vector.
-fn behind(schema: &Schema, steps: &[Step], txn: TxnId, begin: &Vector) -> Option<SiteNo>
-    ensures { result ≡ option_and_then (λ r. first_above schema.now.sites r.min begin.now) (routed_txn txn (reverse steps.now)) }
+fn behind(steps: &[Step], txn: TxnId, begin: &Vector) -> Option<SiteNo>
+    ensures { result ≡ option_and_then (λ r. first_above r.min begin.now) (routed_txn txn (reverse steps.now)) }
 {
     match routed_txn(steps, txn) {
-        Some(sent) => first_above(schema, &sent.min, begin),
+        Some(routing) => routing.min.first_above(begin),
         None => None,
     }
 }
@@ -138,7 +138,7 @@ fn routed_to(steps: &[Step], txn: TxnId) -> Option<SiteNo>
     ensures { result ≡ option_map (λ r. r.site) (routed_txn txn (reverse steps.now)) }
 {
     match routed_txn(steps, txn) {
-        Some(sent) => Some(sent.site),
+        Some(routing) => Some(routing.site),
         None => None,
     }
 }
@@ -159,7 +159,7 @@ fn begin_why(
         down: is_down(steps, site),
         elsewhere: elsewhere(schema, steps, site, keys),
         vector: site_vector(schema, steps, site),
-        behind: behind(schema, steps, txn, begin),
+        behind: behind(steps, txn, begin),
         holder: holder(steps, site, keys),
     };
     begin_refusal(reads, site, begin)

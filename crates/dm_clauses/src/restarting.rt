@@ -10,7 +10,7 @@ ghost use Rattle.dm_model.specs.Progress.{site_vector};
 
 use crate::rows::restart_refusal;
 use dm_event::{Found, Schema, SiteNo, Step, Vector, Why};
-use dm_plain::{counted, counted_floor, counted_unclosed, first_above, is_down, site_vector};
+use dm_plain::{entry_count_with_kept, floor_with_kept, is_down, site_vector, unclosed_with_kept};
 
 /// The site's vector with this number of its own transactions.
 fn vector_with(schema: &Schema, steps: &[Step], site: SiteNo, own: u64) -> Vector
@@ -34,15 +34,15 @@ pub(crate) fn restart_why(
     requires site { is_site schema.now site ≡ true }
     ensures { result ≡ first (restart_clauses schema.now (reverse steps.now) site vector.now found) }
 {
-    let due = counted(steps, site, found);
-    let floor = counted_floor(schema, steps, site, found);
+    let due = entry_count_with_kept(steps, site, found);
+    let floor = floor_with_kept(schema, steps, site, found);
     let own = vector_with(schema, steps, site, due);
     restart_refusal(
         is_down(steps, site),
         due,
-        first_above(schema, &floor, vector),
-        first_above(schema, vector, &own),
-        counted_unclosed(schema, steps, site, vector, found),
+        floor.first_above(vector),
+        vector.first_above(&own),
+        unclosed_with_kept(steps, site, vector, found),
         site,
         vector,
         found,

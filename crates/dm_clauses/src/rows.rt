@@ -12,7 +12,6 @@ ghost use Rattle.dm_clauses.specs.Judging.{epoch_now};
 use dm_event::{
     Attempt, AttemptState, Choice, Entry, Found, Key, Part, Placing, SiteNo, TxnId, Vector, Why,
 };
-use dm_plain::same_vector;
 
 fn may_route(now: AttemptState) -> bool
     ensures { result ≡ may_route now }
@@ -69,7 +68,7 @@ pub(crate) fn route_refusal(
     if txn.attempt != attempt {
         return Some(Why::NotDue { due: attempt });
     }
-    if !same_vector(min, &least) {
+    if !min.same(&least) {
         return Some(Why::WrongVector { due: least });
     }
     if may_choose(due, site, choice) {
@@ -121,7 +120,7 @@ pub(crate) fn begin_refusal(reads: BeginReads, site: SiteNo, begin: &Vector) -> 
     if let Some(part) = reads.elsewhere {
         return Some(Why::Elsewhere { part });
     }
-    if !same_vector(begin, &reads.vector) {
+    if !begin.same(&reads.vector) {
         return Some(Why::WrongVector { due: reads.vector });
     }
     if let Some(component) = reads.behind {
@@ -162,7 +161,7 @@ pub(crate) fn commit_refusal(reads: CommitReads, writes: bool, entry: &Entry) ->
     let Some(begin) = reads.begin else {
         unreachable!();
     };
-    if !same_vector(&entry.begin, &begin) {
+    if !entry.begin.same(&begin) {
         return Some(Why::WrongVector { due: begin });
     }
     if let Some(key) = reads.undeclared {
@@ -369,7 +368,7 @@ pub(crate) fn release_refusal(
     if let Some(txn) = runner {
         return Some(Why::Running { txn });
     }
-    if same_vector(vector, &own) {
+    if vector.same(&own) {
         None
     } else {
         Some(Why::WrongVector { due: own })
@@ -403,7 +402,7 @@ pub(crate) fn grant_refusal(
     if epoch != released + 1 {
         return Some(Why::NotDue { due: released + 1 });
     }
-    if !same_vector(vector, &due) {
+    if !vector.same(&due) {
         return Some(Why::WrongVector { due });
     }
     if down {

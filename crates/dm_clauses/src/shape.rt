@@ -2,43 +2,20 @@
 
 ghost use Rattle.std.specs.Prelude.{◌≡◌, ◌<◌, ◌&&◌, nat_le, length, slice_index, map};
 ghost use Rattle.std.specs.List.{list_all};
-ghost use Rattle.dm_event.specs.Layout.{is_site, is_part, is_key};
+ghost use Rattle.dm_event.specs.Layout.{is_key, is_session};
 ghost use Rattle.dm_event.specs.declared.step.Step.TheVariants.{Doubt};
 ghost use Rattle.dm_model.specs.Shape.{is_ascending, is_vector, is_declared, is_op, are_ops, are_pairs, is_entry, is_want, is_cause, is_cause_at, is_said, is_shaped};
 
 use dm_event::{
-    Cause, Entry, Key, Op, Pair, Part, Pending, Said, Schema, SiteNo, Step, TxnId, Vector, Want,
+    Cause, Entry, Key, MAX_KEYS, MAX_OPS, Op, Pair, Pending, Said, Schema, SiteNo, Step, TxnId,
+    Vector, Want,
 };
 use dm_outcomes::same_byte;
 
-fn is_site(schema: &Schema, site: SiteNo) -> bool
-    ensures { result ≡ is_site schema.now site }
-{
-    1 <= site && site <= schema.sites()
-}
-
-fn is_part(schema: &Schema, part: Part) -> bool
-    ensures { result ≡ is_part schema.now part }
-{
-    part < schema.parts()
-}
-
-fn is_key(schema: &Schema, key: Key) -> bool
-    ensures { result ≡ is_key schema.now key }
-{
-    u64::from(key) < u64::from(schema.parts()) * u64::from(schema.width())
-}
-
-fn is_session(session: u32) -> bool
-    ensures { result ≡ (nat_le 1 session && nat_le session 32) }
-{
-    1 <= session && session <= 32
-}
-
 fn is_txn(txn: TxnId) -> bool
-    ensures { result ≡ ((nat_le 1 txn.session && nat_le txn.session 32) && (nat_le 1 txn.number && nat_le 1 txn.attempt)) }
+    ensures { result ≡ (is_session txn.session && (nat_le 1 txn.number && nat_le 1 txn.attempt)) }
 {
-    is_session(txn.session) && (1 <= txn.number && 1 <= txn.attempt)
+    Schema::is_session(txn.session) && (1 <= txn.number && 1 <= txn.attempt)
 }
 
 fn is_vector(schema: &Schema, vector: &Vector) -> bool
@@ -50,7 +27,7 @@ fn is_vector(schema: &Schema, vector: &Vector) -> bool
 fn are_keys(schema: &Schema, keys: &[Key]) -> bool
     ensures { result ≡ list_all (is_key schema.now) keys.now }
 {
-    keys.iter().all(|key| is_key(schema, *key))
+    keys.iter().all(|key| schema.is_key(*key))
 }
 
 fn ascend(keys: &[Key]) -> bool
@@ -67,21 +44,21 @@ fn ascend(keys: &[Key]) -> bool
 fn is_declared(schema: &Schema, keys: &[Key]) -> bool
     ensures { result ≡ is_declared schema.now keys.now }
 {
-    ascend(keys) && (keys.len() <= 32 && are_keys(schema, keys))
+    ascend(keys) && (keys.len() <= MAX_KEYS && are_keys(schema, keys))
 }
 
 fn is_op(schema: &Schema, op: &Op) -> bool
     ensures { result ≡ is_op schema.now op.now }
 {
     match op {
-        Op::Read { key } | Op::Write { key, .. } | Op::Add { key, .. } => is_key(schema, *key),
+        Op::Read { key } | Op::Write { key, .. } | Op::Add { key, .. } => schema.is_key(*key),
     }
 }
 
 fn are_ops(schema: &Schema, ops: &[Op]) -> bool
     ensures { result ≡ are_ops schema.now ops.now }
 {
-    ops.len() <= 64 && each_is_op(schema, ops)
+    ops.len() <= MAX_OPS && each_is_op(schema, ops)
 }
 
 fn each_is_op(schema: &Schema, ops: &[Op]) -> bool
@@ -93,7 +70,7 @@ fn each_is_op(schema: &Schema, ops: &[Op]) -> bool
 fn are_pairs(schema: &Schema, pairs: &[Pair]) -> bool
     ensures { result ≡ are_pairs schema.now pairs.now }
 {
-    pairs.iter().all(|pair| is_key(schema, pair.key))
+    pairs.iter().all(|pair| schema.is_key(pair.key))
 }
 
 fn pairs_ascend(pairs: &[Pair]) -> bool
@@ -118,7 +95,7 @@ fn is_entry(schema: &Schema, entry: &Entry) -> bool
     ensures { result ≡ is_entry schema.now entry.now }
 {
     is_txn(entry.txn)
-        && (is_site(schema, entry.origin)
+        && (schema.is_site(entry.origin)
             && (is_vector(schema, &entry.begin)
                 && (are_ops(schema, entry.ops.as_slice())
                     && (are_pairs(schema, entry.reads.as_slice())
@@ -131,7 +108,7 @@ fn is_want(schema: &Schema, want: &Want) -> bool
 {
     match want {
         Want::Txn(keys) => is_declared(schema, keys.as_slice()),
-        Want::Place(part) => is_part(schema, *part),
+        Want::Place(part) => schema.is_part(*part),
         Want::Restart => true,
     }
 }
@@ -140,14 +117,14 @@ fn is_cause(schema: &Schema, cause: Cause) -> bool
     ensures { result ≡ is_cause schema.now cause }
 {
     match cause {
-        Cause::Undeclared { key } => is_key(schema, key),
-        Cause::Log { site } => is_site(schema, site),
+        Cause::Undeclared { key } => schema.is_key(key),
+        Cause::Log { site } => schema.is_site(site),
         Cause::Damage {
             site,
             read,
             written,
             ..
-        } => is_site(schema, site) && !same_byte(read, written),
+        } => schema.is_site(site) && !same_byte(read, written),
         Cause::Memory => true,
     }
 }
@@ -169,8 +146,8 @@ fn is_said(schema: &Schema, said: Said) -> bool
         Said::Committed { site, .. }
         | Said::Read { site }
         | Said::InDoubt { site }
-        | Said::Restarted { site } => is_site(schema, site),
-        Said::Placed { part, site, .. } => is_part(schema, part) && is_site(schema, site),
+        | Said::Restarted { site } => schema.is_site(site),
+        Said::Placed { part, site, .. } => schema.is_part(part) && schema.is_site(site),
         Said::Refused(cause) => is_cause(schema, cause),
     }
 }
@@ -180,7 +157,7 @@ fn is_pending(schema: &Schema, site: SiteNo, pending: &Pending) -> bool
 {
     match pending {
         Pending::Commit(entry) => {
-            is_site(schema, site) && (is_entry(schema, entry) && entry.origin == site)
+            schema.is_site(site) && (is_entry(schema, entry) && entry.origin == site)
         }
         Pending::Release {
             part,
@@ -188,11 +165,11 @@ fn is_pending(schema: &Schema, site: SiteNo, pending: &Pending) -> bool
             vector,
             ..
         } => {
-            is_site(schema, site)
-                && (is_part(schema, *part) && (is_site(schema, *to) && is_vector(schema, vector)))
+            schema.is_site(site)
+                && (schema.is_part(*part) && (schema.is_site(*to) && is_vector(schema, vector)))
         }
         Pending::Grant { part, vector, .. } => {
-            is_site(schema, site) && (is_part(schema, *part) && is_vector(schema, vector))
+            schema.is_site(site) && (schema.is_part(*part) && is_vector(schema, vector))
         }
     }
 }
@@ -210,21 +187,21 @@ pub fn is_shaped(schema: &Schema, step: &Step) -> bool
             ..
         } => {
             is_txn(*txn)
-                && (is_want(schema, want) && (is_vector(schema, min) && is_site(schema, *site)))
+                && (is_want(schema, want) && (is_vector(schema, min) && schema.is_site(*site)))
         }
         Step::Reply {
             session,
             number,
             said,
-        } => is_session(*session) && (1 <= *number && is_said(schema, *said)),
+        } => Schema::is_session(*session) && (1 <= *number && is_said(schema, *said)),
         Step::Ask { part, to, txn, .. } => {
-            is_part(schema, *part) && (is_site(schema, *to) && is_txn(*txn))
+            schema.is_part(*part) && (schema.is_site(*to) && is_txn(*txn))
         }
-        Step::Settle { part, .. } => is_part(schema, *part),
+        Step::Settle { part, .. } => schema.is_part(*part),
         Step::Begin { site, txn, begin } => {
-            is_site(schema, *site) && (is_txn(*txn) && is_vector(schema, begin))
+            schema.is_site(*site) && (is_txn(*txn) && is_vector(schema, begin))
         }
-        Step::Moved { site, txn } => is_site(schema, *site) && is_txn(*txn),
+        Step::Moved { site, txn } => schema.is_site(*site) && is_txn(*txn),
         Step::Commit { entry } => is_entry(schema, entry),
         Step::End {
             site,
@@ -232,16 +209,16 @@ pub fn is_shaped(schema: &Schema, step: &Step) -> bool
             ops,
             reads,
         } => {
-            is_site(schema, *site)
+            schema.is_site(*site)
                 && (is_txn(*txn)
                     && (are_ops(schema, ops.as_slice()) && are_pairs(schema, reads.as_slice())))
         }
         Step::Fail { site, txn, cause } => {
-            is_site(schema, *site)
+            schema.is_site(*site)
                 && (is_txn(*txn)
                     && (is_cause(schema, *cause) && is_cause_at(schema, *site, *cause)))
         }
-        Step::Refresh { site, origin } => is_site(schema, *site) && is_site(schema, *origin),
+        Step::Refresh { site, origin } => schema.is_site(*site) && schema.is_site(*origin),
         Step::Release {
             site,
             part,
@@ -249,16 +226,16 @@ pub fn is_shaped(schema: &Schema, step: &Step) -> bool
             vector,
             ..
         } => {
-            is_site(schema, *site)
-                && (is_part(schema, *part) && (is_site(schema, *to) && is_vector(schema, vector)))
+            schema.is_site(*site)
+                && (schema.is_part(*part) && (schema.is_site(*to) && is_vector(schema, vector)))
         }
         Step::Grant {
             site,
             part,
             vector,
             ..
-        } => is_site(schema, *site) && (is_part(schema, *part) && is_vector(schema, vector)),
+        } => schema.is_site(*site) && (schema.is_part(*part) && is_vector(schema, vector)),
         Step::Doubt { site, pending } => is_pending(schema, *site, pending),
-        Step::Restart { site, vector, .. } => is_site(schema, *site) && is_vector(schema, vector),
+        Step::Restart { site, vector, .. } => schema.is_site(*site) && is_vector(schema, vector),
     }
 }

@@ -97,7 +97,7 @@ impl Vector {
 
     /// The least site of whose component it has more than the other vector.
     pub fn first_above(&self, other: &Vector) -> Option<SiteNo>
-        ensures { result ≡ first_above (length self.now) self.now other.now }
+        ensures { result ≡ first_above self.now other.now }
     {
         for site in 1..self.as_slice().len() as SiteNo + 1 {
             if other.get(site) < self.get(site) {

@@ -51,9 +51,9 @@ runs_due layout past t site h k = found_holds (λ i. runs i t past) (sites_to la
 abbrev pub vector_clauses : Layout → List Step → ℕ → List ℕ → List Step → List Clause
 vector_clauses layout past site vector kept =
     holds (at vector site == entry_count site kept) (why.NotDue (entry_count site kept))
-    ∷ none_of (first_above layout.sites (floor layout.sites kept site) vector) why.Behind
-    ∷ none_of (first_above layout.sites vector (raised (site_vector layout.sites past site) site (entry_count site kept))) why.Ahead
-    ∷ none_of {X = ℕ × ℕ} (option_map (λ e. (e.origin, e.seq)) (unclosed layout.sites vector (reverse (entries kept)))) (λ entry. why.NotClosed entry.0 entry.1)
+    ∷ none_of (first_above (floor layout.sites kept site) vector) why.Behind
+    ∷ none_of (first_above vector (raised (site_vector layout.sites past site) site (entry_count site kept))) why.Ahead
+    ∷ none_of {X = ℕ × ℕ} (option_map (λ e. (e.origin, e.seq)) (unclosed vector (reverse (entries kept)))) (λ entry. why.NotClosed entry.0 entry.1)
     ∷ []
 
 -- where each clause holds, none gives a reason

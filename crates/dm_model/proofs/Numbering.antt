@@ -185,9 +185,9 @@ inside_at true false h p = absurd (false≢true (sym h))
 inside_at false b h p = absurd (false≢true p)
 
 -- no entry is inside that began above
-pub none_unclosed : (count : ℕ) (v : List ℕ) (es : List Entry) → Each (λ e. length e.begin ≡ count) es → find (λ e. is_inside v e && not (is_at_most count e.begin v)) (reverse es) ≡ None
+pub none_unclosed : (count : ℕ) (v : List ℕ) (es : List Entry) → Each (λ e. length e.begin ≡ count) es → find (λ e. is_inside v e && not (is_at_most e.begin v)) (reverse es) ≡ None
     → Each (λ e. e.seq ≤ at v e.origin → (j : ℕ) → at e.begin j ≤ at v j) es
 none_unclosed count v es long h =
-    each_map2 (λ e. length e.begin ≡ count) (λ e. (is_inside v e && not (is_at_most count e.begin v)) ≡ false) (λ e. e.seq ≤ at v e.origin → (j : ℕ) → at e.begin j ≤ at v j)
-    (λ e l f k. at_most count e.begin v l (is_none_true (first_above count e.begin v) (inside_at (is_inside v e) (is_at_most count e.begin v) f (le-leb e.seq (at v e.origin) k))))
-    es long (each_reverse (λ e. (is_inside v e && not (is_at_most count e.begin v)) ≡ false) es (find_none _ (reverse es) h))
+    each_map2 (λ e. length e.begin ≡ count) (λ e. (is_inside v e && not (is_at_most e.begin v)) ≡ false) (λ e. e.seq ≤ at v e.origin → (j : ℕ) → at e.begin j ≤ at v j)
+    (λ e l f k. at_most count e.begin v l (is_none_true (first_above e.begin v) (inside_at (is_inside v e) (is_at_most e.begin v) f (le-leb e.seq (at v e.origin) k))))
+    es long (each_reverse (λ e. (is_inside v e && not (is_at_most e.begin v)) ≡ false) es (find_none _ (reverse es) h))

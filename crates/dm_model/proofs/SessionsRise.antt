@@ -152,11 +152,11 @@ module _ (layout : Layout) (past : List Step) (n : SoundPast layout past) (seat 
         begin,
         taken (txn.session == c) _ _ e,
         subst (λ (k : ℕ). AtMost (session_vector layout.sites past k) begin) (eqb-true txn.session c e)
-            (above q.0 q.2 (ap (λ (o : Option Routing). option_and_then (λ r. first_above layout.sites r.min begin) o) (sym q.1) ∙ map_none _ _ a.1.1.1.1.1.1.0)),
+            (above q.0 q.2 (ap (λ (o : Option Routing). option_and_then (λ r. first_above r.min begin) o) (sym q.1) ∙ map_none _ _ a.1.1.1.1.1.1.0)),
       ))
       (λ e. says_keep layout.sites past (Begin site txn begin ∷ past) c refl refl (passed (txn.session == c) _ _ e) (λ i k x f. f) (state c past) (s c))
     where
-      above : (r : Routing) → Stands past txn r → first_above layout.sites r.min begin ≡ None → AtMost (session_vector layout.sites past txn.session) begin
+      above : (r : Routing) → Stands past txn r → first_above r.min begin ≡ None → AtMost (session_vector layout.sites past txn.session) begin
       above r q none =
           let z = routed_says layout.sites past txn.session (state txn.session past) (s txn.session) q.state in
           let same : z.0 ≡ r = cc (z.1, q.last) in

@@ -31,10 +31,13 @@ at_by_below count f (suc k) = elim (cases_lt k count) [
 ]
 
 -- no component is above
-pub at_most : (count : ℕ) (u v : List ℕ) → length u ≡ count → first_above count u v ≡ None → (j : ℕ) → at u j ≤ at v j
+pub at_most : (count : ℕ) (u v : List ℕ) → length u ≡ count → first_above u v ≡ None → (j : ℕ) → at u j ≤ at v j
 at_most count u v long h zero = omega arith
-at_most count u v long h (suc k) = elim (cases_lt k count) [
-  | inl l ↦ (let b = each_range (λ site. nat_lt (at v site) (at u site) ≡ false) 1 count (find_none (λ site. nat_lt (at v site) (at u site)) (sites_to count) h) (suc k) (omega arith) (omega arith) in ltb-false (at v (suc k)) (at u (suc k)) b)
+at_most count u v long h (suc k) = elim (cases_lt k (length u)) [
+  | inl l ↦
+      (let b = each_range (λ site. nat_lt (at v site) (at u site) ≡ false) 1 (length u)
+          (find_none (λ site. nat_lt (at v site) (at u site)) (sites_to (length u)) h) (suc k) (omega arith) (omega arith) in
+      ltb-false (at v (suc k)) (at u (suc k)) b)
   | inr m ↦ (let e = at_past u (suc k) (omega arith) in omega arith)
 ]
 

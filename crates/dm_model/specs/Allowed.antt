@@ -96,7 +96,7 @@ module _ (layout : Layout) (past : List Step) where
         down = is_down site past;
         elsewhere = elsewhere layout past site (declared txn past);
         vector = site_vector layout.sites past site;
-        behind = option_and_then (λ r. first_above layout.sites r.min begin) (routed_txn txn past);
+        behind = option_and_then (λ r. first_above r.min begin) (routed_txn txn past);
         holder = holder site (declared txn past) past;
       } in
       begin_row reads site begin
@@ -131,9 +131,9 @@ module _ (layout : Layout) (past : List Step) where
   abbrev pub restart_clauses : ℕ → List ℕ → Found → List Clause
   restart_clauses site vector found =
       let kept = with_kept site found past in
-      restart_row (is_down site past) (entry_count site kept) (first_above layout.sites (floor layout.sites kept site) vector)
-      (first_above layout.sites vector (raised (site_vector layout.sites past site) site (entry_count site kept)))
-      (option_map (λ e. (e.origin, e.seq)) (unclosed layout.sites vector (reverse (entries kept)))) site vector found
+      restart_row (is_down site past) (entry_count site kept) (first_above (floor layout.sites kept site) vector)
+      (first_above vector (raised (site_vector layout.sites past site) site (entry_count site kept)))
+      (option_map (λ e. (e.origin, e.seq)) (unclosed vector (reverse (entries kept)))) site vector found
 
   abbrev pub ask_clauses : ℕ → ℕ → ℕ → TxnId → List Clause
   ask_clauses part epoch to txn =
@@ -146,7 +146,7 @@ module _ (layout : Layout) (past : List Step) where
 
   abbrev pub grant_clauses : ℕ → ℕ → ℕ → List ℕ → List Clause
   grant_clauses site part epoch vector =
-      grant_row (placing layout past part) (is_down site past) (first_above layout.sites vector (site_vector layout.sites past site)) site epoch vector
+      grant_row (placing layout past part) (is_down site past) (first_above vector (site_vector layout.sites past site)) site epoch vector
 
   abbrev pub settle_clauses : ℕ → ℕ → List Clause
   settle_clauses part epoch = settle_row (placing layout past part) epoch

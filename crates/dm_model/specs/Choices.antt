@@ -62,7 +62,7 @@ circle sites session = map (λ k. 1 + (session - 1 + k) % sites) (range_with_len
 -- the first site of the circle that has what the session has seen, or the first of all where none has
 abbrev pub reader_site : Layout → List Step → ℕ → ℕ
 reader_site layout past session =
-    unwrap_or (find (λ site. is_at_most layout.sites (session_vector layout.sites past session) (site_vector layout.sites past site))
+    unwrap_or (find (λ site. is_at_most (session_vector layout.sites past session) (site_vector layout.sites past site))
     (circle layout.sites session))
     (1 + (session - 1) % layout.sites)
 

@@ -17,5 +17,5 @@ pub record Closed (v : List ℕ) (past : List Step) : Type 0 where
   pub begun : AllByRecursion (λ e. IsTrue (is_inside v e) → AtMost e.begin v) (entries past)
 
 -- the first entry inside the vector that began at a vector not at most it
-abbrev pub unclosed : ℕ → List ℕ → List Entry → Option Entry
-unclosed count v es = find (λ e. is_inside v e && not (is_at_most count e.begin v)) es
+abbrev pub unclosed : List ℕ → List Entry → Option Entry
+unclosed v es = find (λ e. is_inside v e && not (is_at_most e.begin v)) es

@@ -10,7 +10,7 @@ use crate::since::{last_settled, restarted_since, stood_settled};
 use crate::states::{is_committed, is_doubted, is_ended, may_refuse, refused_due};
 use crate::wants::{is_routed_for_place, is_routed_for_restart};
 use dm_event::{AttemptState, Part, Said, Schema, SiteNo, Step, Want};
-use dm_plain::{last_sent, last_want, state};
+use dm_plain::{last_routing, last_want, state};
 
 /// Whether the session may be answered so; the outcome's numbers are in their ranges.
 pub fn may_say(schema: &Schema, steps: &[Step], session: u32, said: Said) -> bool
@@ -60,8 +60,8 @@ fn due_by_route(schema: &Schema, steps: &[Step], session: u32) -> Option<Said>
     requires { Legal schema.now steps.now }
     ensures { result ≡ option_and_then (λ r. due_of schema.now (reverse steps.now) session r.site r.want) (last_routing session (reverse steps.now)) }
 {
-    match (last_sent(steps, session), last_want(steps, session)) {
-        (Some(sent), Some(want)) => due_of(schema, steps, session, sent.site, want),
+    match (last_routing(steps, session), last_want(steps, session)) {
+        (Some(routing), Some(want)) => due_of(schema, steps, session, routing.site, want),
         _ => None,
     }
 }

@@ -4,7 +4,7 @@ ghost use Rattle.std.specs.Prelude.{◌≡◌, true, reverse};
 ghost use Rattle.dm_model.specs.Outcomes.{wants_place, wants_restart, is_routed_for};
 
 use dm_event::{Part, SiteNo, Step, Want};
-use dm_plain::{is_routed, last_sent, last_want, state};
+use dm_plain::{is_routed, last_routing, last_want, state};
 
 fn wants_place(want: &Want, part: Part) -> bool
     ensures { result ≡ wants_place part want.now }
@@ -27,8 +27,8 @@ fn wants_restart(want: &Want) -> bool
 fn is_routed_to(steps: &[Step], session: u32, site: SiteNo) -> bool
     ensures { result ≡ is_routed_for session site (λ want. true) (reverse steps.now) }
 {
-    match last_sent(steps, session) {
-        Some(sent) => is_routed(state(steps, session)) && sent.site == site,
+    match last_routing(steps, session) {
+        Some(routing) => is_routed(state(steps, session)) && routing.site == site,
         None => false,
     }
 }

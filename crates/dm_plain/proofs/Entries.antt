@@ -22,7 +22,7 @@ use Rattle.dm_model.specs.Placings.{placed_by, after_acts}
 use Rattle.dm_model.specs.Progress.{entry_count}
 use Rattle.dm_model.specs.Values.{newest}
 use Rattle.dm_model.specs.Words.{count_of}
-use Rattle.dm_plain.specs.Adding.{kept_entry, of_origin, numbered, written_by, kept_placing, unclosed_one}
+use Rattle.dm_plain.specs.Adding.{kept_entry, of_origin, with_number, written_by, kept_placing, unclosed_one}
 use Rattle.dm_plain.proofs.Past.{past_more}
 
 by_pending : (site : ℕ) (o : Option Pending) → option_to_list (kept_entry Kept o) ≡ filter_map entry_of (option_to_list (option_map (step_of site) o))
@@ -73,7 +73,7 @@ count_one j (Some e) es = by_test (e.origin == j)
     by_test true = omega arith
     by_test false = omega arith
 
-find_one : (j n : ℕ) (o : Option Entry) (es : List Entry) → find (λ e. (e.origin == j) && (e.seq == n)) (option_to_list o ++ es) ≡ option_or (numbered j n o)
+find_one : (j n : ℕ) (o : Option Entry) (es : List Entry) → find (λ e. (e.origin == j) && (e.seq == n)) (option_to_list o ++ es) ≡ option_or (with_number j n o)
     (find (λ e. (e.origin == j) && (e.seq == n)) es)
 find_one j n None es = refl
 find_one j n (Some e) es = by_test ((e.origin == j) && (e.seq == n))
@@ -116,13 +116,13 @@ none_last None = refl
 none_last (Some x) = refl
 
 -- one more entry is the last that is looked at
-pub unclosed_more : (count : ℕ) (v : List ℕ) (o : Option Entry) (es : List Entry)
-    → option_map named (unclosed count v (reverse (option_to_list o ++ es))) ≡ option_or (option_map named (unclosed count v (reverse es)))
-    (unclosed_one count v o)
-unclosed_more count v None es = none_last (option_map named (unclosed count v (reverse es)))
-unclosed_more count v (Some e) es =
-    ap (λ (l : List Entry). option_map named (unclosed count v l)) (reverse-append (e ∷ []) es)
-    ∙ find_last (λ d. is_inside v d && not (is_at_most count d.begin v)) (reverse es) e
+pub unclosed_more : (v : List ℕ) (o : Option Entry) (es : List Entry)
+    → option_map named (unclosed v (reverse (option_to_list o ++ es))) ≡ option_or (option_map named (unclosed v (reverse es)))
+    (unclosed_one v o)
+unclosed_more v None es = none_last (option_map named (unclosed v (reverse es)))
+unclosed_more v (Some e) es =
+    ap (λ (l : List Entry). option_map named (unclosed v l)) (reverse-append (e ∷ []) es)
+    ∙ find_last (λ d. is_inside v d && not (is_at_most d.begin v)) (reverse es) e
 
 -- a Restart that keeps a commit counts its entry
 pub entries_counted : (site : ℕ) (found : Found) (past : List Step) → entries (with_kept site found past) ≡ option_to_list
@@ -143,12 +143,12 @@ count_counted j site found past =
     ap (λ (es : List Entry). count_of (λ e. e.origin == j) es) (entries_counted site found past)
     ∙ count_one j (kept_entry found (pending_at site past)) (entries past)
 
-pub unclosed_counted : (count : ℕ) (v : List ℕ) (site : ℕ) (found : Found) (past : List Step)
-    → option_map named (unclosed count v (reverse (entries (with_kept site found past))))
-    ≡ option_or (option_map named (unclosed count v (reverse (entries past)))) (unclosed_one count v (kept_entry found (pending_at site past)))
-unclosed_counted count v site found past =
-    ap (λ (es : List Entry). option_map named (unclosed count v (reverse es))) (entries_counted site found past)
-    ∙ unclosed_more count v (kept_entry found (pending_at site past)) (entries past)
+pub unclosed_counted : (v : List ℕ) (site : ℕ) (found : Found) (past : List Step)
+    → option_map named (unclosed v (reverse (entries (with_kept site found past))))
+    ≡ option_or (option_map named (unclosed v (reverse (entries past)))) (unclosed_one v (kept_entry found (pending_at site past)))
+unclosed_counted v site found past =
+    ap (λ (es : List Entry). option_map named (unclosed v (reverse es))) (entries_counted site found past)
+    ∙ unclosed_more v (kept_entry found (pending_at site past)) (entries past)
 
 module _ (steps : List Step) (i : ℕ) (s : Step) (o : Option Entry) (h : i < length steps) (e : s ≡ get_or steps i s)
     (f : option_to_list o ≡ filter_map entry_of (acts_of s (reverse (take i steps)))) where
@@ -158,18 +158,18 @@ module _ (steps : List Step) (i : ℕ) (s : Step) (o : Option Entry) (h : i < le
   pub count_after : (j : ℕ) → entry_count j (reverse (take (i + 1) steps)) ≡ entry_count j (reverse (take i steps)) + of_origin j o
   count_after j = ap (λ (es : List Entry). count_of (λ d. d.origin == j) es) after ∙ count_one j o (entries (reverse (take i steps)))
 
-  pub find_after : (j n : ℕ) → entry_at j n (reverse (take (i + 1) steps)) ≡ option_or (numbered j n o) (entry_at j n (reverse (take i steps)))
+  pub find_after : (j n : ℕ) → entry_at j n (reverse (take (i + 1) steps)) ≡ option_or (with_number j n o) (entry_at j n (reverse (take i steps)))
   find_after j n = ap (λ (es : List Entry). find (λ d. (d.origin == j) && (d.seq == n)) es) after ∙ find_one j n o (entries (reverse (take i steps)))
 
   pub newest_after : (key : ℕ) (v : List ℕ) → newest (entries (reverse (take (i + 1) steps))) key v ≡ option_or (written_by key v o)
       (newest (entries (reverse (take i steps))) key v)
   newest_after key v = ap (λ (es : List Entry). newest es key v) after ∙ newest_one key v o (entries (reverse (take i steps)))
 
-  pub unclosed_after : (count : ℕ) (v : List ℕ)
-      → option_map named (unclosed count v (reverse (entries (reverse (take (i + 1) steps)))))
-      ≡ option_or (option_map named (unclosed count v (reverse (entries (reverse (take i steps)))))) (unclosed_one count v o)
-  unclosed_after count v =
-      ap (λ (es : List Entry). option_map named (unclosed count v (reverse es))) after ∙ unclosed_more count v o (entries (reverse (take i steps)))
+  pub unclosed_after : (v : List ℕ)
+      → option_map named (unclosed v (reverse (entries (reverse (take (i + 1) steps)))))
+      ≡ option_or (option_map named (unclosed v (reverse (entries (reverse (take i steps)))))) (unclosed_one v o)
+  unclosed_after v =
+      ap (λ (es : List Entry). option_map named (unclosed v (reverse es))) after ∙ unclosed_more v o (entries (reverse (take i steps)))
 
 pub of_origin_few : (j : ℕ) (o : Option Entry) → of_origin j o ≤ 1
 of_origin_few j None = omega arith

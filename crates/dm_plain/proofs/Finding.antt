@@ -16,7 +16,7 @@ use Rattle.dm_model.specs.Attempts.{declared}
 use Rattle.dm_model.specs.Choices.{parts_in_order}
 use Rattle.dm_model.specs.Tests.{is_among}
 use Rattle.dm_model.specs.Runs.{runs, begun_at}
-use Rattle.dm_plain.specs.Adding.{held_by, holds_one, run_by, runs_one}
+use Rattle.dm_plain.specs.Adding.{begun_holder, holds_one, begun_runner, runs_one}
 
 -- the rest of a list begins with its element
 pub rest_is : {X : Type 0} (xs : List X) (i : ℕ) (x : X) → i < length xs → x ≡ get_or xs i x → drop i xs ≡ x ∷ drop (i + 1) xs
@@ -67,7 +67,7 @@ module _ (site : ℕ) (keys : List ℕ) (past : List Step) where
   by_begin (Some t) ts = by_run t (filter (λ u. runs site u past) ts) (runs site t past)
 
   -- the first step is looked at first
-  pub holder_first : (s : Step) (steps : List Step) → holder_among keys (live (s ∷ steps)) past ≡ option_or (held_by site keys past s)
+  pub holder_first : (s : Step) (steps : List Step) → holder_among keys (live (s ∷ steps)) past ≡ option_or (begun_holder site keys past s)
       (holder_among keys (live steps) past)
   holder_first s steps = by_begin (begun_at site s) (filter_map (begun_at site) steps)
 
@@ -78,7 +78,7 @@ holder_of site keys steps = ap (λ (ts : List TxnId). holder_among keys (filter 
     (map_reverse (begun_at site) steps)
 
 pub holder_at : (site : ℕ) (keys : List ℕ) (past steps : List Step) (i : ℕ) (s : Step) → i < length steps → s ≡ get_or steps i s
-    → holder_among keys (live site keys past (drop i steps)) past ≡ option_or (held_by site keys past s)
+    → holder_among keys (live site keys past (drop i steps)) past ≡ option_or (begun_holder site keys past s)
     (holder_among keys (live site keys past (drop (i + 1) steps)) past)
 holder_at site keys past steps i s h e = ap (λ (l : List Step). holder_among keys (live site keys past l) past) (rest_is steps i s h e)
     ∙ holder_first site keys past s (drop (i + 1) steps)
@@ -105,7 +105,7 @@ module _ (layout : Layout) (site part : ℕ) (past : List Step) where
   on_begin None ts = refl
   on_begin (Some t) ts = on_run t (filter (λ u. runs site u past) ts) (runs site t past) (is_on t) refl
 
-  on_first : (s : Step) (steps : List Step) → on_part (s ∷ steps) ≡ option_or (run_by layout site part past s) (on_part steps)
+  on_first : (s : Step) (steps : List Step) → on_part (s ∷ steps) ≡ option_or (begun_runner layout site part past s) (on_part steps)
   on_first s steps = on_begin (begun_at site s) (filter_map (begun_at site) steps)
 
 -- the runner is looked for from the earliest step on
@@ -114,7 +114,7 @@ runner_of layout site part steps =
     ap (λ (ts : List TxnId). find (is_on layout site part (reverse steps)) (filter (λ t. runs site t (reverse steps)) ts)) (map_reverse (begun_at site) steps)
 
 pub runner_at : (layout : Layout) (site part : ℕ) (past steps : List Step) (i : ℕ) (s : Step) → i < length steps → s ≡ get_or steps i s
-    → on_part layout site part past (drop i steps) ≡ option_or (run_by layout site part past s) (on_part layout site part past (drop (i + 1) steps))
+    → on_part layout site part past (drop i steps) ≡ option_or (begun_runner layout site part past s) (on_part layout site part past (drop (i + 1) steps))
 runner_at layout site part past steps i s h e = ap (λ (l : List Step). on_part layout site part past l) (rest_is steps i s h e)
     ∙ on_first layout site part past s (drop (i + 1) steps)
 

@@ -6,7 +6,7 @@ use Rattle.dm_event.specs.declared.step.Step.{Step}
 use Rattle.dm_event.specs.declared.step.TxnId.{TxnId}
 use Rattle.dm_model.specs.Attempts.{Routing, last_routing, routing}
 use Rattle.dm_model.specs.Words.{latest}
-use Rattle.dm_plain.specs.Routings.{sent_of, sent_by, wanted_by, want_of, routed_by}
+use Rattle.dm_plain.specs.Routings.{without_want, routing_by, wanted_by, want_of, routed_by}
 
 map_or : {A B : Type 0} (f : A → B) (a b : Option A) → option_or (option_map f a) (option_map f b) ≡ option_map f (option_or a b)
 map_or f None b = refl
@@ -16,8 +16,8 @@ pub latest_map : {S A B : Type 0} (f : A → B) (h : S → Option A) (past : Lis
 latest_map f h [] = refl
 latest_map {B = B} f h (s ∷ past) = ap (λ (o : Option B). option_or (option_map f (h s)) o) (latest_map f h past) ∙ map_or f (h s) (latest h past)
 
-pub sent_last : (c : ℕ) (past : List Step) → latest (sent_by c) past ≡ option_map sent_of (last_routing c past)
-sent_last c past = latest_map sent_of _ past
+pub routing_last : (c : ℕ) (past : List Step) → latest (routing_by c) past ≡ option_map without_want (last_routing c past)
+routing_last c past = latest_map without_want _ past
 
 pub wanted_last : (c : ℕ) (past : List Step) → latest (wanted_by c) past ≡ option_map (λ r. r.want) (last_routing c past)
 wanted_last c past = latest_map (λ r. r.want) _ past
@@ -28,6 +28,6 @@ routed_last c past = latest_map (λ r. r.txn) _ past
 pub want_last : (t : TxnId) (past : List Step) → latest (want_of t) past ≡ option_map (λ r. r.want) (routing t past)
 want_last t past = latest_map (λ r. r.want) _ past
 
-pub some_sent : (o : Option Routing) → is_some (option_map sent_of o) ≡ is_some o
-some_sent None = refl
-some_sent (Some r) = refl
+pub some_routing : (o : Option Routing) → is_some (option_map without_want o) ≡ is_some o
+some_routing None = refl
+some_routing (Some r) = refl

@@ -37,9 +37,9 @@ of_origin j None = 0
 of_origin j (Some e) = if e.origin == j then 1 else 0
 
 -- the entry, if it has this origin and number
-abbrev pub numbered : ℕ → ℕ → Option Entry → Option Entry
-numbered j n None = None
-numbered j n (Some e) = if (e.origin == j) && (e.seq == n) then Some e else None
+abbrev pub with_number : ℕ → ℕ → Option Entry → Option Entry
+with_number j n None = None
+with_number j n (Some e) = if (e.origin == j) && (e.seq == n) then Some e else None
 
 -- what the entry wrote of the key, if it is inside the vector
 abbrev pub written_by : ℕ → List ℕ → Option Entry → Option ℤ
@@ -57,8 +57,8 @@ abbrev pub holds_one : ℕ → List ℕ → List Step → TxnId → Option (TxnI
 holds_one site keys past t = if runs site t past then option_map (λ key. (t, key)) (common_key keys (declared t past)) else None
 
 -- the same of the attempt that the step began at the site
-abbrev pub held_by : ℕ → List ℕ → List Step → Step → Option (TxnId × ℕ)
-held_by site keys past s = option_and_then (holds_one site keys past) (begun_at site s)
+abbrev pub begun_holder : ℕ → List ℕ → List Step → Step → Option (TxnId × ℕ)
+begun_holder site keys past s = option_and_then (holds_one site keys past) (begun_at site s)
 
 -- the vector that an outcome adds to what the session has seen
 abbrev pub said_vector : ℕ → Said → List Step → Option (List ℕ)
@@ -76,8 +76,8 @@ abbrev pub runs_one : Layout → ℕ → ℕ → List Step → TxnId → Option 
 runs_one layout site part past t = if runs site t past && is_among (parts_in_order layout (declared t past)) part then Some t else None
 
 -- the same of the attempt that the step began at the site
-abbrev pub run_by : Layout → ℕ → ℕ → List Step → Step → Option TxnId
-run_by layout site part past s = option_and_then (runs_one layout site part past) (begun_at site s)
+abbrev pub begun_runner : Layout → ℕ → ℕ → List Step → Step → Option TxnId
+begun_runner layout site part past s = option_and_then (runs_one layout site part past) (begun_at site s)
 
 -- what a kept pending step of the site `at` adds to the floor of site i
 abbrev pub kept_floor : ℕ → ℕ → Found → Option Pending → Option (List ℕ)
@@ -90,6 +90,6 @@ floor_by i (Restart site vector found) past = kept_floor i site found (pending_a
 floor_by i s past = floor_vector i s
 
 -- the entry's origin and number, where it is inside the vector and began at a vector not at most it
-abbrev pub unclosed_one : ℕ → List ℕ → Option Entry → Option (ℕ × ℕ)
-unclosed_one count v None = None
-unclosed_one count v (Some e) = if is_inside v e && not (is_at_most count e.begin v) then Some (e.origin, e.seq) else None
+abbrev pub unclosed_one : List ℕ → Option Entry → Option (ℕ × ℕ)
+unclosed_one v None = None
+unclosed_one v (Some e) = if is_inside v e && not (is_at_most e.begin v) then Some (e.origin, e.seq) else None

@@ -5,21 +5,21 @@ use Rattle.dm_event.specs.declared.step.Step.{Step}
 use Rattle.dm_event.specs.declared.step.TxnId.{TxnId}
 use Rattle.dm_event.specs.declared.step.Want.{Want}
 use Rattle.dm_model.specs.Attempts.{Routing, routing_of}
-use Rattle.dm_plain.specs.declared.attempts.Sent.{Sent}
+use Rattle.dm_plain.specs.declared.attempts.Routing.{Routing as Kept}
 
 -- the Route without what it wants
-abbrev pub sent_of : Routing → Sent
-sent_of r = record { txn = r.txn; min = r.min; site = r.site; choice = r.choice }
+abbrev pub without_want : Routing → Kept
+without_want r = record { txn = r.txn; min = r.min; site = r.site; choice = r.choice }
 
 -- what the step says, if it is a Route of the session
-abbrev pub sent_by : ℕ → Step → Option Sent
-sent_by c s = option_map sent_of (routing_of (λ txn. txn.session == c) s)
+abbrev pub routing_by : ℕ → Step → Option Kept
+routing_by session s = option_map without_want (routing_of (λ txn. txn.session == session) s)
 
 abbrev pub wanted_by : ℕ → Step → Option Want
-wanted_by c s = option_map (λ r. r.want) (routing_of (λ txn. txn.session == c) s)
+wanted_by session s = option_map (λ r. r.want) (routing_of (λ txn. txn.session == session) s)
 
 abbrev pub routed_by : ℕ → Step → Option TxnId
-routed_by c s = option_map (λ r. r.txn) (routing_of (λ txn. txn.session == c) s)
+routed_by session s = option_map (λ r. r.txn) (routing_of (λ txn. txn.session == session) s)
 
 -- what the step wants, if it is the Route of the attempt
 abbrev pub want_of : TxnId → Step → Option Want

@@ -3,7 +3,7 @@
 ghost use Rattle.std.specs.Prelude.{◌≡◌, ◌<◌, ◌≤◌, ◌^◌, length, reverse, option_copied, option_to_list, filter_map};
 ghost use Rattle.dm_model.specs.Acts.{acts_of, entry_of, entry_at};
 ghost use Rattle.dm_model.specs.Progress.{entry_count};
-ghost use Rattle.dm_plain.specs.Adding.{kept_entry, of_origin, numbered};
+ghost use Rattle.dm_plain.specs.Adding.{kept_entry, of_origin, with_number};
 
 use crate::doubts::pending_at;
 use dm_event::{Entry, Found, Pending, SiteNo, Step};
@@ -58,13 +58,13 @@ pub fn entry_at(steps: &[Step], origin: SiteNo, seq: u64) -> Option<&Entry>
 {
     let mut last = None;
     for i in 0..steps.len() {
-        last = numbered(entry_of(&steps[i], &steps[..i]), origin, seq).or(last);
+        last = with_number(entry_of(&steps[i], &steps[..i]), origin, seq).or(last);
     }
     last
 }
 
-fn numbered(entry: Option<&Entry>, origin: SiteNo, seq: u64) -> Option<&Entry>
-    ensures { option_copied result ≡ numbered origin seq (option_copied entry.entry) }
+fn with_number(entry: Option<&Entry>, origin: SiteNo, seq: u64) -> Option<&Entry>
+    ensures { option_copied result ≡ with_number origin seq (option_copied entry.entry) }
 {
     match entry {
         Some(entry) if entry.origin == origin && entry.seq == seq => Some(entry),

@@ -6,23 +6,17 @@ ghost use Rattle.dm_event.specs.Txns.{same_txn};
 ghost use Rattle.dm_event.specs.declared.step.TxnId.{TxnId};
 ghost use Rattle.dm_model.specs.Attempts.{is_reply, replies, is_route, routes, last_routing, routing, wanted_keys, declared, state_by, dropped_at, dropped_by, state, attempt, is_routed, wants_txn, routed, routed_txn};
 ghost use Rattle.dm_model.specs.Words.{since};
-ghost use Rattle.dm_plain.specs.Routings.{sent_of, sent_by, wanted_by, want_of, routed_by};
+ghost use Rattle.dm_plain.specs.Routings.{without_want, routing_by, wanted_by, want_of, routed_by};
 
 use dm_event::{Attempt, AttemptState, Choice, Key, Pending, SiteNo, Step, TxnId, Vector, Want};
 
 /// A Route without what it wants.
 #[derive(Clone, Copy, Debug)]
-pub struct Sent {
+pub struct Routing {
     pub txn: TxnId,
     pub min: Vector,
     pub site: SiteNo,
     pub choice: Choice,
-}
-
-pub(crate) fn same_txn(a: TxnId, b: TxnId) -> bool
-    ensures { result ≡ same_txn a b }
-{
-    a.session == b.session && (a.number == b.number && a.attempt == b.attempt)
 }
 
 fn is_reply(step: &Step, session: u32) -> bool
@@ -77,8 +71,8 @@ pub fn routes(steps: &[Step], session: u32) -> u64
     count
 }
 
-fn sent_by(step: &Step, session: u32) -> Option<Sent>
-    ensures { result ≡ sent_by session step.now }
+fn routing_by(step: &Step, session: u32) -> Option<Routing>
+    ensures { result ≡ routing_by session step.now }
 {
     match step {
         Step::Route {
@@ -87,7 +81,7 @@ fn sent_by(step: &Step, session: u32) -> Option<Sent>
             site,
             choice,
             ..
-        } if txn.session == session => Some(Sent {
+        } if txn.session == session => Some(Routing {
             txn: *txn,
             min: *min,
             site: *site,
@@ -110,19 +104,19 @@ fn want_of(step: &Step, attempt: TxnId) -> Option<&Want>
     ensures { option_copied result ≡ want_of attempt step.now }
 {
     match step {
-        Step::Route { txn, want, .. } if same_txn(attempt, *txn) => Some(want),
+        Step::Route { txn, want, .. } if attempt.same(txn) => Some(want),
         _ => None,
     }
 }
 
 /// The last Route of the session.
-#[tactic(auto, using(crate::proofs::Past::past_more, crate::proofs::Routings::sent_last))]
-pub fn last_sent(steps: &[Step], session: u32) -> Option<Sent>
-    ensures { result ≡ option_map sent_of (last_routing session (reverse steps.now)) }
+#[tactic(auto, using(crate::proofs::Past::past_more, crate::proofs::Routings::routing_last))]
+pub fn last_routing(steps: &[Step], session: u32) -> Option<Routing>
+    ensures { result ≡ option_map without_want (last_routing session (reverse steps.now)) }
 {
     let mut last = None;
     for step in steps {
-        last = sent_by(step, session).or(last);
+        last = routing_by(step, session).or(last);
     }
     last
 }
@@ -141,7 +135,7 @@ pub fn last_want(steps: &[Step], session: u32) -> Option<&Want>
 
 /// What the Route of the attempt wants.
 #[tactic(auto, using(crate::proofs::Past::past_more, crate::proofs::Routings::want_last))]
-pub fn want(steps: &[Step], txn: TxnId) -> Option<&Want>
+fn want(steps: &[Step], txn: TxnId) -> Option<&Want>
     ensures { option_copied result ≡ option_map (λ r. r.want) (routing txn (reverse steps.now)) }
 {
     let mut last = None;
@@ -293,19 +287,19 @@ fn wants_txn(want: Option<&Want>) -> bool
 }
 
 /// The attempt's Route, where its session stands routed by it.
-pub fn routed(steps: &[Step], txn: TxnId) -> Option<Sent>
-    ensures { result ≡ option_map sent_of (routed txn (reverse steps.now)) }
+pub fn routed(steps: &[Step], txn: TxnId) -> Option<Routing>
+    ensures { result ≡ option_map without_want (routed txn (reverse steps.now)) }
 {
-    let sent = last_sent(steps, txn.session)?;
-    if is_routed(state(steps, txn.session)) && same_txn(txn, sent.txn) {
-        Some(sent)
+    let routing = last_routing(steps, txn.session)?;
+    if is_routed(state(steps, txn.session)) && txn.same(&routing.txn) {
+        Some(routing)
     } else {
         None
     }
 }
 
 /// Whether the attempt's session stands routed by it.
-#[tactic(auto, using(crate::proofs::Routings::some_sent))]
+#[tactic(auto, using(crate::proofs::Routings::some_routing))]
 pub fn stands_routed(steps: &[Step], txn: TxnId) -> bool
     ensures { result ≡ is_some (routed txn (reverse steps.now)) }
 {
@@ -313,15 +307,15 @@ pub fn stands_routed(steps: &[Step], txn: TxnId) -> bool
 }
 
 /// The attempt's Route, where its session stands routed by it for a transaction.
-pub fn routed_txn(steps: &[Step], txn: TxnId) -> Option<Sent>
-    ensures { result ≡ option_map sent_of (routed_txn txn (reverse steps.now)) }
+pub fn routed_txn(steps: &[Step], txn: TxnId) -> Option<Routing>
+    ensures { result ≡ option_map without_want (routed_txn txn (reverse steps.now)) }
 {
-    let sent = last_sent(steps, txn.session)?;
+    let routing = last_routing(steps, txn.session)?;
     if is_routed(state(steps, txn.session))
-        && same_txn(txn, sent.txn)
+        && txn.same(&routing.txn)
         && wants_txn(last_want(steps, txn.session))
     {
-        Some(sent)
+        Some(routing)
     } else {
         None
     }

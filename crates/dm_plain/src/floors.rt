@@ -14,7 +14,6 @@ ghost use Rattle.dm_plain.specs.Adding.{kept_floor, floor_by, unclosed_one};
 use crate::acts::{entry_count, entry_of, is_of, kept_entry};
 use crate::doubts::pending_at;
 use crate::sessions::join_one;
-use crate::vectors::first_above;
 use dm_event::{Entry, Found, Pending, Schema, SiteNo, Step, Vector};
 
 /// What a committed transaction adds to the floor of its origin.
@@ -86,13 +85,11 @@ pub fn floor(schema: &Schema, steps: &[Step], site: SiteNo) -> Vector
 }
 
 /// The entry's origin and number, where it is inside the vector and began at a vector not at most it.
-fn unclosed_one(schema: &Schema, vector: &Vector, entry: Option<&Entry>) -> Option<(SiteNo, u64)>
-    ensures { result ≡ unclosed_one schema.now.sites vector.now (option_copied entry.entry) }
+fn unclosed_one(vector: &Vector, entry: Option<&Entry>) -> Option<(SiteNo, u64)>
+    ensures { result ≡ unclosed_one vector.now (option_copied entry.entry) }
 {
     let entry = entry?;
-    if entry.seq <= vector.get(entry.origin)
-        && first_above(schema, &entry.begin, vector).is_some()
-    {
+    if entry.seq <= vector.get(entry.origin) && entry.begin.first_above(vector).is_some() {
         Some((entry.origin, entry.seq))
     } else {
         None
@@ -100,25 +97,25 @@ fn unclosed_one(schema: &Schema, vector: &Vector, entry: Option<&Entry>) -> Opti
 }
 
 /// The first entry for which the vector isn't closed.
-fn unclosed(schema: &Schema, steps: &[Step], vector: &Vector) -> Option<(SiteNo, u64)>
-    ensures { result ≡ option_map (λ e. (e.origin, e.seq)) (unclosed schema.now.sites vector.now (reverse (entries (reverse steps.now)))) }
+fn unclosed(steps: &[Step], vector: &Vector) -> Option<(SiteNo, u64)>
+    ensures { result ≡ option_map (λ e. (e.origin, e.seq)) (unclosed vector.now (reverse (entries (reverse steps.now)))) }
 {
     let mut found = None;
     for i in 0..steps.len() {
-        found = found.or(unclosed_one(schema, vector, entry_of(&steps[i], &steps[..i])));
+        found = found.or(unclosed_one(vector, entry_of(&steps[i], &steps[..i])));
     }
     found
 }
 
 /// The number of the site's transactions, with a kept one counted.
-pub fn counted(steps: &[Step], site: SiteNo, found: Found) -> u64
+pub fn entry_count_with_kept(steps: &[Step], site: SiteNo, found: Found) -> u64
     ensures { result ≡ entry_count site (with_kept site found (reverse steps.now)) }
 {
     entry_count(steps, site) + is_of(kept_entry(found, pending_at(steps, site)), site)
 }
 
 /// The site's floor, with a kept step counted.
-pub fn counted_floor(schema: &Schema, steps: &[Step], site: SiteNo, found: Found) -> Vector
+pub fn floor_with_kept(schema: &Schema, steps: &[Step], site: SiteNo, found: Found) -> Vector
     requires { Legal schema.now steps.now }
     ensures { result ≡ floor schema.now.sites (with_kept site found (reverse steps.now)) site }
 {
@@ -129,15 +126,14 @@ pub fn counted_floor(schema: &Schema, steps: &[Step], site: SiteNo, found: Found
 }
 
 /// The first entry for which the vector isn't closed, with a kept one counted.
-pub fn counted_unclosed(
-    schema: &Schema,
+pub fn unclosed_with_kept(
     steps: &[Step],
     site: SiteNo,
     vector: &Vector,
     found: Found,
 ) -> Option<(SiteNo, u64)>
-    ensures { result ≡ option_map (λ e. (e.origin, e.seq)) (unclosed schema.now.sites vector.now (reverse (entries (with_kept site found (reverse steps.now))))) }
+    ensures { result ≡ option_map (λ e. (e.origin, e.seq)) (unclosed vector.now (reverse (entries (with_kept site found (reverse steps.now))))) }
 {
     let entry = kept_entry(found, pending_at(steps, site));
-    unclosed(schema, steps, vector).or(unclosed_one(schema, vector, entry))
+    unclosed(steps, vector).or(unclosed_one(vector, entry))
 }

@@ -10,18 +10,16 @@ mod progress;
 mod running;
 mod sessions;
 mod values;
-mod vectors;
 
 pub use acts::{entry_at, entry_count, entry_of};
 pub use attempts::{
-    Sent, attempt, declared, is_route, is_routed, last_sent, last_want, replies, routed,
-    routed_txn, routes, stands_routed, state, want,
+    Routing, attempt, declared, is_route, is_routed, last_routing, last_want, replies, routed,
+    routed_txn, routes, stands_routed, state,
 };
 pub use doubts::{is_down, pending_at};
-pub use floors::{counted, counted_floor, counted_unclosed, floor};
+pub use floors::{entry_count_with_kept, floor, floor_with_kept, unclosed_with_kept};
 pub use placings::{may_begin_now, placing};
 pub use progress::{full, is_restart, reached, site_vector};
 pub use running::{begin_vector, has_part, holder, run_site, runner, runs};
 pub use sessions::session_vector;
 pub use values::{Reading, value};
-pub use vectors::{first_above, is_at_most, same_vector};

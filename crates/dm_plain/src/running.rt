@@ -7,9 +7,9 @@ ghost use Rattle.dm_model.specs.Allowed.{common_key, holder, runner};
 ghost use Rattle.dm_model.specs.Choices.{parts_in_order};
 ghost use Rattle.dm_model.specs.Runs.{runs_after, runs, begun_at, run_site, begin_of, begin_vector, last_begin};
 ghost use Rattle.dm_model.specs.Tests.{is_among};
-ghost use Rattle.dm_plain.specs.Adding.{held_by, run_by};
+ghost use Rattle.dm_plain.specs.Adding.{begun_holder, begun_runner};
 
-use crate::attempts::{declared, same_txn};
+use crate::attempts::declared;
 use dm_event::{Key, Part, Schema, SiteNo, Step, TxnId, Vector};
 
 /// Whether the step begins or ends a run of the attempt at the site.
@@ -17,9 +17,9 @@ fn runs_after(step: &Step, site: SiteNo, attempt: TxnId) -> Option<bool>
     ensures { result ≡ runs_after site attempt step.now }
 {
     match step {
-        Step::Begin { site: at, txn, .. } if same_txn(attempt, *txn) => Some(*at == site),
-        Step::Commit { entry } if same_txn(attempt, entry.txn) => Some(false),
-        Step::End { txn, .. } | Step::Fail { txn, .. } if same_txn(attempt, *txn) => Some(false),
+        Step::Begin { site: at, txn, .. } if attempt.same(txn) => Some(*at == site),
+        Step::Commit { entry } if attempt.same(&entry.txn) => Some(false),
+        Step::End { txn, .. } | Step::Fail { txn, .. } if attempt.same(txn) => Some(false),
         Step::Doubt { site: at, .. } | Step::Restart { site: at, .. } if *at == site => Some(false),
         _ => None,
     }
@@ -53,7 +53,7 @@ fn begin_of(step: &Step, attempt: TxnId) -> Option<Vector>
     ensures { result ≡ begin_of (same_txn attempt) step.now }
 {
     match step {
-        Step::Begin { txn, begin, .. } if same_txn(attempt, *txn) => Some(*begin),
+        Step::Begin { txn, begin, .. } if attempt.same(txn) => Some(*begin),
         _ => None,
     }
 }
@@ -119,8 +119,8 @@ fn common_key(keys: &[Key], others: &[Key]) -> Option<Key>
 }
 
 /// The least of the keys that the attempt, which the step began there, declares too while it runs.
-fn held(steps: &[Step], step: &Step, site: SiteNo, keys: &[Key]) -> Option<(TxnId, Key)>
-    ensures { result ≡ held_by site keys.now (reverse steps.now) step.now }
+fn begun_holder(steps: &[Step], step: &Step, site: SiteNo, keys: &[Key]) -> Option<(TxnId, Key)>
+    ensures { result ≡ begun_holder site keys.now (reverse steps.now) step.now }
 {
     let txn = begun_at(step, site)?;
     if runs(steps, site, txn) {
@@ -137,7 +137,7 @@ pub fn holder(steps: &[Step], site: SiteNo, keys: &[Key]) -> Option<(TxnId, Key)
     ensures { result ≡ holder site keys.now (reverse steps.now) }
 {
     for step in steps {
-        if let Some(found) = held(steps, step, site, keys) {
+        if let Some(found) = begun_holder(steps, step, site, keys) {
             return Some(found);
         }
     }
@@ -165,8 +165,14 @@ pub fn has_part(schema: &Schema, keys: &[Key], part: Part) -> bool
 }
 
 /// The attempt that the step began at the site, where it runs and declares a key of the partition.
-fn run_by(schema: &Schema, steps: &[Step], step: &Step, site: SiteNo, part: Part) -> Option<TxnId>
-    ensures { result ≡ run_by schema.now site part (reverse steps.now) step.now }
+fn begun_runner(
+    schema: &Schema,
+    steps: &[Step],
+    step: &Step,
+    site: SiteNo,
+    part: Part,
+) -> Option<TxnId>
+    ensures { result ≡ begun_runner schema.now site part (reverse steps.now) step.now }
 {
     let txn = begun_at(step, site)?;
     if runs(steps, site, txn) && has_part(schema, declared(steps, txn), part) {
@@ -181,7 +187,7 @@ pub fn runner(schema: &Schema, steps: &[Step], site: SiteNo, part: Part) -> Opti
     ensures { result ≡ runner schema.now (reverse steps.now) site part }
 {
     for step in steps {
-        if let Some(txn) = run_by(schema, steps, step, site, part) {
+        if let Some(txn) = begun_runner(schema, steps, step, site, part) {
             return Some(txn);
         }
     }

@@ -6,4 +6,4 @@ use Rattle.dm_plain.proofs.Entries.{named}
 use Rattle.dm_plain.proofs.floors.unclosed.Given as goal
 
 abbrev pub invariant-loop-i : goal.invariant-loop-i
-invariant-loop-i l = l.found ≡ option_map named (unclosed l.schema.sites l.vector (reverse (entries (reverse (take l.i l.steps)))))
+invariant-loop-i l = l.found ≡ option_map named (unclosed l.vector (reverse (entries (reverse (take l.i l.steps)))))

@@ -16,7 +16,7 @@ returns-in-Some c =
     ∙ ap (λ (o : Option (TxnId × ℕ)). option_or o
     (holder_among c.args.keys.now (live c.args.site c.args.keys.now (reverse c.args.steps.now) (drop (c.loop-step.step-index + 1) c.args.steps.now))
     (reverse c.args.steps.now)))
-    (sym c.held.ensures ∙ c.in-Some.is))
+    (sym c.begun_holder.ensures ∙ c.in-Some.is))
 
 pub loop-step-preserved : goal.loop-step-preserved
 loop-step-preserved c =
@@ -25,7 +25,7 @@ loop-step-preserved c =
     ∙ ap (λ (o : Option (TxnId × ℕ)). option_or o
     (holder_among c.args.keys.now (live c.args.site c.args.keys.now (reverse c.args.steps.now) (drop (c.loop-step.step-index + 1) c.args.steps.now))
     (reverse c.args.steps.now)))
-    (sym c.held.ensures ∙ c.in_default.is))
+    (sym c.begun_holder.ensures ∙ c.in_default.is))
     ∙ c.loop-step.invariant
 
 pub returns : goal.returns

@@ -14,7 +14,7 @@ returns-in-Some c =
     let i = c.loop-step.step-index in
     sym (runner_of layout c.args.site c.args.part steps ∙ sym c.loop-step.invariant
     ∙ runner_at layout c.args.site c.args.part (reverse steps) steps i c.step-item.result c.loop-step-test.true c.step-item.is
-    ∙ ap (λ (o : Option TxnId). option_or o (on_part layout c.args.site c.args.part (reverse steps) (drop (i + 1) steps))) (sym c.run_by.ensures ∙ c.in-Some.is))
+    ∙ ap (λ (o : Option TxnId). option_or o (on_part layout c.args.site c.args.part (reverse steps) (drop (i + 1) steps))) (sym c.begun_runner.ensures ∙ c.in-Some.is))
 
 pub loop-step-preserved : goal.loop-step-preserved
 loop-step-preserved c =
@@ -22,7 +22,7 @@ loop-step-preserved c =
     let steps = c.args.steps.now in
     let i = c.loop-step.step-index in
     sym (runner_at layout c.args.site c.args.part (reverse steps) steps i c.step-item.result c.loop-step-test.true c.step-item.is
-    ∙ ap (λ (o : Option TxnId). option_or o (on_part layout c.args.site c.args.part (reverse steps) (drop (i + 1) steps))) (sym c.run_by.ensures ∙ c.in_default.is))
+    ∙ ap (λ (o : Option TxnId). option_or o (on_part layout c.args.site c.args.part (reverse steps) (drop (i + 1) steps))) (sym c.begun_runner.ensures ∙ c.in_default.is))
     ∙ c.loop-step.invariant
 
 pub returns : goal.returns

@@ -7,15 +7,14 @@ use Rattle.dm_model.specs.Acts.{entries}
 use Rattle.dm_model.specs.Closed.{unclosed}
 use Rattle.dm_plain.specs.Adding.{kept_entry, unclosed_one}
 use Rattle.dm_plain.proofs.Entries.{named, unclosed_counted}
-use Rattle.dm_plain.proofs.floors.counted_unclosed.Goals as goal
+use Rattle.dm_plain.proofs.floors.unclosed_with_kept.Goals as goal
 
 pub returns : goal.returns
 returns c =
-    let sites = c.args.schema.now.sites in
     let v = c.args.vector.now in
     let past = reverse c.args.steps.now in
     c.or.ensures
     ∙ ap (λ (o : Option (ℕ × ℕ)). option_or o c.unclosed_one.result) c.unclosed.ensures
-    ∙ ap (λ (o : Option (ℕ × ℕ)). option_or (option_map named (unclosed sites v (reverse (entries past)))) o)
-    (c.unclosed_one.ensures ∙ ap (λ (o : Option Entry). unclosed_one sites v o) (c.kept_entry-entry.ensures ∙ ap (λ (o : Option Pending). kept_entry c.args.found o) c.pending_at.ensures))
-    ∙ sym (unclosed_counted sites v c.args.site c.args.found past)
+    ∙ ap (λ (o : Option (ℕ × ℕ)). option_or (option_map named (unclosed v (reverse (entries past)))) o)
+    (c.unclosed_one.ensures ∙ ap (λ (o : Option Entry). unclosed_one v o) (c.kept_entry-entry.ensures ∙ ap (λ (o : Option Pending). kept_entry c.args.found o) c.pending_at.ensures))
+    ∙ sym (unclosed_counted v c.args.site c.args.found past)

@@ -4,7 +4,7 @@ use Rattle.dm_event.specs.declared.step.Entry.{Entry}
 use Rattle.dm_event.specs.declared.step.Pending.{Pending}
 use Rattle.dm_plain.specs.Adding.{kept_entry, of_origin}
 use Rattle.dm_plain.proofs.Entries.{count_counted}
-use Rattle.dm_plain.proofs.floors.counted.Goals as goal
+use Rattle.dm_plain.proofs.floors.entry_count_with_kept.Goals as goal
 
 pub returns : goal.returns
 returns c =

@@ -10,7 +10,7 @@ use Rattle.dm_plain.specs.Adding.{join_one, kept_floor}
 use Rattle.dm_plain.proofs.Components.{join_one_more, long_both}
 use Rattle.dm_plain.proofs.FloorVectors.{floor_counted}
 use Rattle.dm_plain.proofs.Legality.{pending_shaped}
-use Rattle.dm_plain.proofs.floors.counted_floor.Goals as goal
+use Rattle.dm_plain.proofs.floors.floor_with_kept.Goals as goal
 
 pub kept_floor-requires : goal.kept_floor-requires
 kept_floor-requires c =

@@ -1,0 +1,12 @@
+use Rattle.std.proofs.Common.{List, ap, ◌∙◌, reverse}
+use Rattle.dm_event.specs.declared.step.Step.{Step}
+use Rattle.dm_model.specs.Words.{latest}
+use Rattle.dm_plain.specs.Routings.{routing_by}
+use Rattle.dm_plain.proofs.Past.{past_whole}
+use Rattle.dm_plain.proofs.Routings.{routing_last}
+use Rattle.dm_plain.proofs.attempts.last_routing.Goals as goal
+
+pub returns : goal.returns
+returns c =
+    c.loop-step.invariant ∙ ap (λ (past : List Step). latest (routing_by c.args.session) past) (past_whole c.args.steps.now c.loop-step.step-index c.loop-step-test.false)
+    ∙ routing_last c.args.session (reverse c.args.steps.now)
