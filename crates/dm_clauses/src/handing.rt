@@ -15,9 +15,7 @@ ghost use Rattle.dm_clauses.specs.Judging.{epoch_now};
 
 use crate::rows::{ask_refusal, grant_refusal, release_refusal, settle_refusal};
 use dm_event::{Choice, Part, Placing, Schema, SiteNo, Step, TxnId, Vector, Want, Why};
-use dm_plain::{
-    has_part, is_down, last_want, placing, routed, runner, site_vector, stands_routed,
-};
+use dm_plain::{has_part, is_down, last_want, placing, routed, runner, site_vector, stands_routed};
 
 /// Whether the Route wants a hand-over of the partition.
 fn wants_part(schema: &Schema, part: Part, choice: Choice, want: &Want) -> bool
