@@ -1,21 +1,22 @@
 //! The history so far, as the plain list of its steps.
 
 ghost use Rattle.std.specs.List.{list_all};
-ghost use Rattle.std.specs.Prelude.{ℕ, ◌≡◌, ◌<◌, ◌≤◌, ◌↔◌, ◌++◌, ◌∷◌, [], true, false, None, Some, length, IfOk, IsNone, OnOk, OnErr, MatchResult, option_copied};
+ghost use Rattle.std.specs.Prelude.{ℕ, ◌≡◌, ◌<◌, ◌≤◌, ◌↔◌, ◌++◌, ◌∷◌, [], true, false, None, Some, length, IfOk, IfSome, IsNone, OnOk, OnErr, MatchResult, option_copied, reverse, take};
 ghost use Rattle.dm_event.specs.Layout.{is_key, is_site};
 ghost use Rattle.dm_core.specs.Ledger.{past};
 ghost use Rattle.dm_model.specs.Acts.{entry_at};
 ghost use Rattle.dm_model.specs.Allowed.{Allowed, next_refresh, refusal, runner};
-ghost use Rattle.dm_model.specs.Attempts.{attempt, wanted_keys, wants_txn};
+ghost use Rattle.dm_model.specs.Attempts.{attempt, declared, replies, routes, wanted_keys, wants_txn};
 ghost use Rattle.dm_model.specs.Choices.{choice_due};
-ghost use Rattle.dm_model.specs.Doubts.{is_down};
+ghost use Rattle.dm_model.specs.Doubts.{is_down, pending_at};
 ghost use Rattle.dm_model.specs.Floors.{floor};
 ghost use Rattle.dm_model.specs.Legal.{Legal};
 ghost use Rattle.dm_model.specs.OneMaster.{OneMaster};
 ghost use Rattle.dm_model.specs.Ordered.{Ordered};
 ghost use Rattle.dm_model.specs.Outcomes.{said_due};
 ghost use Rattle.dm_model.specs.Placings.{placing};
-ghost use Rattle.dm_model.specs.Progress.{full, site_vector};
+ghost use Rattle.dm_model.specs.Progress.{entry_count, full, site_vector};
+ghost use Rattle.dm_model.specs.Runs.{begin_vector};
 ghost use Rattle.dm_model.specs.SessionUp.{SessionUp};
 ghost use Rattle.dm_model.specs.Sessions.{session_vector};
 ghost use Rattle.dm_model.specs.Snapshot.{Snapshot};
@@ -25,8 +26,8 @@ ghost use Rattle.dm_store.specs.Histories.{committed_inside};
 use crate::inside::inside;
 use crate::noting::note;
 use dm_event::{
-    Attempt, Choice, Entry, Key, NoMemory, Part, Placing, Said, Schema, SiteNo, Step, TxnId, Value,
-    Vector, Want, Why,
+    Attempt, Choice, Entry, Key, NoMemory, Part, Pending, Placing, Said, Schema, SiteNo, Step,
+    TxnId, Value, Vector, Want, Why,
 };
 use dm_model::refreshes_reach_full;
 use dm_placement::Window;
@@ -146,6 +147,14 @@ impl Book {
         dm_plain::floor(&self.schema, &self.steps, site)
     }
 
+    /// How many committed update transactions the origin has.
+    pub fn entry_count(&self, origin: SiteNo) -> u64
+        ensures exact { result ≡ entry_count origin (past self.now) }
+        ensures few { result ≤ length self.now.steps }
+    {
+        dm_plain::entry_count(&self.steps, origin)
+    }
+
     /// Whether the site is down: from a doubt there to its next restart.
     pub fn is_down(&self, site: SiteNo) -> bool
         ensures { result ≡ is_down site (past self.now) }
@@ -175,6 +184,36 @@ impl Book {
         dm_plain::attempt(&self.steps, session)
     }
 
+    /// How many items of the session were answered.
+    pub fn replies(&self, session: u32) -> u64
+        ensures exact { result ≡ replies session (past self.now) }
+        ensures few { result ≤ length self.now.steps }
+    {
+        dm_plain::replies(&self.steps, session)
+    }
+
+    /// How many attempts at the session's current item were routed.
+    pub fn routes(&self, session: u32) -> u64
+        ensures exact { result ≡ routes session (past self.now) }
+        ensures few { result ≤ length self.now.steps }
+    {
+        dm_plain::routes(&self.steps, session)
+    }
+
+    /// The keys that the attempt declares.
+    pub fn declared(&self, txn: TxnId) -> &[Key]
+        ensures { result.now ≡ declared txn (past self.now) }
+    {
+        dm_plain::declared(&self.steps, txn)
+    }
+
+    /// The vector from which the attempt reads, once it has begun.
+    pub fn begin_vector(&self, txn: TxnId) -> Option<Vector>
+        ensures { result ≡ begin_vector txn (past self.now) }
+    {
+        dm_plain::begin_vector(&self.steps, txn)
+    }
+
     /// The earliest begun attempt that runs at the site and declares a key of the partition: a release
     /// waits for it.
     pub fn runner(&self, site: SiteNo, part: Part) -> Option<TxnId>
@@ -185,9 +224,18 @@ impl Book {
 
     /// The committed update transaction with this origin and number.
     pub fn entry(&self, origin: SiteNo, seq: u64) -> Option<&Entry>
-        ensures { option_copied result ≡ entry_at origin seq (past self.now) }
+        ensures exact { option_copied result ≡ entry_at origin seq (past self.now) }
+        ensures origin { IfSome result (λ entry. (1 ≤ entry.now.origin) × (entry.now.origin ≤ length entry.now.begin)) }
     {
         dm_plain::entry_at(&self.steps, origin, seq)
+    }
+
+    /// What the site's last doubt before this place of the history left pending.
+    pub fn pending_before(&self, place: usize, site: SiteNo) -> Option<&Pending>
+        requires { place ≤ length self.now.steps }
+        ensures { option_copied result ≡ pending_at site (reverse (take place self.now.steps)) }
+    {
+        dm_plain::pending_at(&self.steps[..place], site)
     }
 
     /// The least origin whose next transaction the site may take over.
