@@ -1,2 +1,3 @@
+pub mod GoingBack
 pub mod FurtherMoves
 pub mod LinesOf

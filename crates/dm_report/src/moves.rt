@@ -1,15 +1,16 @@
 //! The moves of partitions from site to site.
 
 ghost use Rattle.std.specs.List.{cons_option};
-ghost use Rattle.std.specs.Prelude.{◌≡◌, ◌∷◌, reverse, Some, IfOk, option_copied};
+ghost use Rattle.std.specs.Prelude.{◌≡◌, ◌≤◌, ◌∷◌, length, reverse, take, Some, IfOk, option_copied};
+ghost use Rattle.dm_core.specs.Ledger.{past};
 ghost use Rattle.dm_model.specs.Acts.{acts, acts_of};
 ghost use Rattle.dm_model.specs.Words.{latest};
 ghost use Rattle.dm_report.specs.Moves.{released_by, giver, moved, moves_by};
 ghost use Rattle.dm_report.specs.Keeping.{kept_release, kept_move};
 ghost use Rattle.dm_report.specs.Rest.{move_text};
 
+use dm_core::Book;
 use dm_event::{Found, NoMemory, Part, Pending, SiteNo, Step};
-use dm_plain::pending_at;
 use std::alloc::Global;
 use std::fmt;
 
@@ -48,57 +49,69 @@ fn kept_release(found: Found, pending: Option<&Pending>, site: SiteNo, part: Par
     }
 }
 
-/// The site that the step releases the partition from, after the steps before it.
-fn released(step: &Step, before: &[Step], part: Part) -> Option<SiteNo>
-    ensures { result ≡ latest (released_by part) (acts_of step.now (reverse before.now)) }
+/// The site that the step releases the partition from, which has this place in the book's history.
+fn released(step: &Step, book: &Book, place: usize, part: Part) -> Option<SiteNo>
+    requires { place ≤ length book.now.steps }
+    ensures { result ≡ latest (released_by part) (acts_of step.now (reverse (take place book.now.steps))) }
 {
     match step {
         Step::Release { site, part: of, .. } if *of == part => Some(*site),
         Step::Restart { site, found, .. } => {
-            kept_release(*found, pending_at(before, *site), *site, part)
+            kept_release(*found, book.pending_before(place, *site), *site, part)
         }
         _ => None,
     }
 }
 
-/// The site that released the partition last.
-fn giver(steps: &[Step], part: Part) -> SiteNo
-    ensures { result ≡ giver part (acts (reverse steps.now)) }
+/// The site that released the partition last, before this place.
+fn giver(book: &Book, place: usize, part: Part) -> SiteNo
+    requires { place ≤ length book.now.steps }
+    ensures { result ≡ giver part (acts (reverse (take place book.now.steps))) }
 {
+    let steps = book.steps();
     let mut last = None;
-    for i in 0..steps.len() {
-        last = released(&steps[i], &steps[..i], part).or(last);
+    for i in 0..place {
+        last = released(&steps[i], book, i, part).or(last);
     }
     last.unwrap_or(0)
 }
 
-/// The move that a grant makes after these steps.
-fn taken(steps: &[Step], site: SiteNo, part: Part, epoch: u64) -> Move
-    ensures { result ≡ moved (acts (reverse steps.now)) site part epoch }
+/// The move that a grant at this place makes.
+fn taken(book: &Book, place: usize, site: SiteNo, part: Part, epoch: u64) -> Move
+    requires { place ≤ length book.now.steps }
+    ensures { result ≡ moved (acts (reverse (take place book.now.steps))) site part epoch }
 {
     Move {
         part,
         epoch,
-        from: giver(steps, part),
+        from: giver(book, place, part),
         to: site,
     }
 }
 
-/// The move that the site's pending step makes after these steps, where it was kept.
-fn kept_move(found: Found, pending: Option<&Pending>, site: SiteNo, steps: &[Step]) -> Option<Move>
-    ensures { result ≡ kept_move (acts (reverse steps.now)) site found (option_copied pending.entry) }
+/// The move that the site's pending step makes at this place, where it was kept.
+fn kept_move(
+    book: &Book,
+    place: usize,
+    found: Found,
+    pending: Option<&Pending>,
+    site: SiteNo,
+) -> Option<Move>
+    requires { place ≤ length book.now.steps }
+    ensures { result ≡ kept_move (acts (reverse (take place book.now.steps))) site found (option_copied pending.entry) }
 {
     match (found, pending) {
         (Found::Kept, Some(Pending::Grant { part, epoch, .. })) => {
-            Some(taken(steps, site, *part, *epoch))
+            Some(taken(book, place, site, *part, *epoch))
         }
         _ => None,
     }
 }
 
-/// The move that the step makes after the steps before it.
-fn move_by(step: &Step, before: &[Step]) -> Option<Move>
-    ensures { moves_by (acts (step.now ∷ reverse before.now)) ≡ cons_option result (moves_by (acts (reverse before.now))) }
+/// The move that the step makes, which has this place in the book's history.
+fn move_by(step: &Step, book: &Book, place: usize) -> Option<Move>
+    requires { place ≤ length book.now.steps }
+    ensures { moves_by (acts (step.now ∷ reverse (take place book.now.steps))) ≡ cons_option result (moves_by (acts (reverse (take place book.now.steps)))) }
 {
     match step {
         Step::Grant {
@@ -106,21 +119,23 @@ fn move_by(step: &Step, before: &[Step]) -> Option<Move>
             part,
             epoch,
             ..
-        } => Some(taken(before, *site, *part, *epoch)),
+        } => Some(taken(book, place, *site, *part, *epoch)),
         Step::Restart { site, found, .. } => {
-            kept_move(*found, pending_at(before, *site), *site, before)
+            let pending = book.pending_before(place, *site);
+            kept_move(book, place, *found, pending, *site)
         }
         _ => None,
     }
 }
 
 /// The moves, the earliest first.
-pub(crate) fn moves_of(alloc: Global, steps: &[Step]) -> Result<Vec<Move>, NoMemory>
-    ensures { IfOk result (λ moves. moves.items ≡ reverse (moves_by (acts (reverse steps.now)))) }
+pub(crate) fn moves_of(alloc: Global, book: &Book) -> Result<Vec<Move>, NoMemory>
+    ensures { IfOk result (λ moves. moves.items ≡ reverse (moves_by (acts (past book.now)))) }
 {
+    let steps = book.steps();
     let mut moves = Vec::new(alloc);
-    for i in 0..steps.len() {
-        if let Some(made) = move_by(&steps[i], &steps[..i]) {
+    for place in 0..steps.len() {
+        if let Some(made) = move_by(&steps[place], book, place) {
             moves.push(made)?;
         }
     }

@@ -10,8 +10,7 @@ ghost use Rattle.dm_text.specs.Text.{Appends};
 use dm_core::Book;
 use dm_event::{Cause, NoMemory, Pairs, Said, SiteNo, Step, TxnId, Vector};
 use dm_history::ByteText;
-use dm_plain::entry_at;
-use dm_text::{PairsText, VectorText};
+use dm_text::{PairsText, VectorText, put_text};
 use std::alloc::Global;
 use std::fmt;
 
@@ -43,33 +42,37 @@ fn end_reads(step: &Step, session: u32, number: u32) -> Option<&Pairs>
 }
 
 /// The begin vector of the last attempt at the item that began.
-#[tactic(auto, using(dm_plain::proofs::Past::past_more))]
 fn item_begin(steps: &[Step], session: u32, number: u32) -> Option<Vector>
     ensures { result ≡ item_begin session number (reverse steps.now) }
 {
-    let mut last = None;
-    for step in steps {
-        last = begin_of(step, session, number).or(last);
+    let mut place = steps.len();
+    while place > 0 {
+        place -= 1;
+        if let Some(begin) = begin_of(&steps[place], session, number) {
+            return Some(begin);
+        }
     }
-    last
+    None
 }
 
 /// What the item's transaction read, which ended without a write.
-#[tactic(auto, using(dm_plain::proofs::Past::past_more))]
 fn item_reads(steps: &[Step], session: u32, number: u32) -> Option<&Pairs>
     ensures { option_copied result ≡ item_reads session number (reverse steps.now) }
 {
-    let mut last = None;
-    for step in steps {
-        last = end_reads(step, session, number).or(last);
+    let mut place = steps.len();
+    while place > 0 {
+        place -= 1;
+        if let Some(reads) = end_reads(&steps[place], session, number) {
+            return Some(reads);
+        }
     }
-    last
+    None
 }
 
 fn saw_commit(book: &Book, site: SiteNo, seq: u64) -> Saw<'_>
     ensures { shown result ≡ option_map saw_commit (entry_at site seq (past book.now)) }
 {
-    let entry = entry_at(book.steps(), site, seq)?;
+    let entry = book.entry(site, seq)?;
     Some((entry.commit_vector(), &entry.reads))
 }
 
@@ -178,5 +181,5 @@ pub fn put_reply(
     let seen = SawText(saw(book, session, number, *said));
     let outcome = OutcomeText(said);
     let line = format!(in alloc; "reply {session} {number} {outcome}{seen}\n")?;
-    Ok(out.extend_from_slice(line.as_bytes())?)
+    put_text(out, &line)
 }

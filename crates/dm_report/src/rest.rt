@@ -16,17 +16,9 @@ use crate::totals::count_replies;
 use dm_core::Book;
 use dm_event::{NoMemory, Part, Placing, SiteNo, Step};
 use dm_history::put_step;
-use dm_plain::{is_down, placing};
-use dm_text::VectorText;
+use dm_text::{VectorText, put_text};
 use std::alloc::Global;
 use std::fmt;
-
-/// Appends a text.
-fn put(out: &mut Vec<u8>, text: &str) -> Result<(), NoMemory>
-    ensures { Appends result out.old.items out.new.items text.now }
-{
-    Ok(out.extend_from_slice(text.as_bytes())?)
-}
 
 /// Appends the number of moves and a line for each.
 #[tactic(auto, unfolding(crate::specs::Rest::moves_text))]
@@ -34,9 +26,9 @@ pub(crate) fn put_moves(alloc: Global, out: &mut Vec<u8>, moves: &[Move]) -> Res
     ensures { Appends result out.old.items out.new.items (moves_text moves.now) }
 {
     let count = moves.len();
-    put(out, &format!(in alloc; "moves {count}\n")?)?;
+    put_text(out, &format!(in alloc; "moves {count}\n")?)?;
     for made in moves {
-        put(out, &made.to_string(alloc)?)?;
+        put_text(out, &made.to_string(alloc)?)?;
     }
     Ok(())
 }
@@ -48,10 +40,10 @@ fn put_site(alloc: Global, out: &mut Vec<u8>, book: &Book, site: SiteNo) -> Resu
 {
     let vector = book.vector(site);
     let vector = VectorText(&vector);
-    if is_down(book.steps(), site) {
-        put(out, &format!(in alloc; "site {site} {vector} down\n")?)
+    if book.is_down(site) {
+        put_text(out, &format!(in alloc; "site {site} {vector} down\n")?)
     } else {
-        put(out, &format!(in alloc; "site {site} {vector}\n")?)
+        put_text(out, &format!(in alloc; "site {site} {vector}\n")?)
     }
 }
 
@@ -95,9 +87,9 @@ fn put_part(alloc: Global, out: &mut Vec<u8>, book: &Book, part: Part) -> Result
     requires { part < length book.now.layout.masters }
     ensures { Appends result out.old.items out.new.items (part_text book.now.layout (past book.now) part) }
 {
-    let stands = placing(book.schema(), book.steps(), part);
+    let stands = book.placing(part);
     let stands = PlacingText(&stands);
-    put(out, &format!(in alloc; "part {part}{stands}\n")?)
+    put_text(out, &format!(in alloc; "part {part}{stands}\n")?)
 }
 
 /// Appends the line of each partition.
@@ -117,7 +109,7 @@ fn put_steps(alloc: Global, out: &mut Vec<u8>, steps: &[Step]) -> Result<(), NoM
     ensures { Appends result out.old.items out.new.items (steps_text steps.now) }
 {
     let count = steps.len();
-    put(out, &format!(in alloc; "steps {count}\n")?)?;
+    put_text(out, &format!(in alloc; "steps {count}\n")?)?;
     for step in steps {
         put_step(alloc, out, step)?;
     }
@@ -131,10 +123,10 @@ pub fn write_rest(alloc: Global, book: &Book, out: &mut Vec<u8>) -> Result<(), N
     ensures { Appends result out.old.items out.new.items (rest_text book.now.layout book.now.steps) }
 {
     let steps = book.steps();
-    let moves = moves_of(alloc, steps)?;
+    let moves = moves_of(alloc, book)?;
     put_moves(alloc, out, &moves)?;
     put_sites(alloc, out, book)?;
     put_parts(alloc, out, book)?;
-    put(out, &count_replies(steps).to_string(alloc)?)?;
+    put_text(out, &count_replies(steps).to_string(alloc)?)?;
     put_steps(alloc, out, steps)
 }

@@ -43,12 +43,12 @@ unfoldable pub word_at : Words → ℕ → List ℕ
 word_at ws n = slice_index_or ws n []
 
 -- the word at a place, where there is one, is this word
-unfoldable pub fixed : Words → ℕ → List ℕ → Result (Unit {0}) LineFault
-fixed ws n text = check Word (nat_le (length ws) n || bytes_eq (word_at ws n) text)
+unfoldable pub fixed_word : Words → ℕ → List ℕ → Result (Unit {0}) LineFault
+fixed_word ws n text = check Word (nat_le (length ws) n || bytes_eq (word_at ws n) text)
 
 -- the line has from `least` to `most` words
-unfoldable pub counted : Words → ℕ → ℕ → Result (Unit {0}) LineFault
-counted ws least most = check Count (is_between least most (length ws))
+unfoldable pub word_count : Words → ℕ → ℕ → Result (Unit {0}) LineFault
+word_count ws least most = check Count (is_between least most (length ws))
 
 -- the number up to `most` of which the word is the canonical text
 abbrev pub canonical : ℕ → List ℕ → Result ℕ LineFault

@@ -11,16 +11,16 @@ use Rattle.dm_event.specs.declared.why.LineFault.TheVariants.{Word, Count, Range
 use Rattle.dm_text.specs.Text.{number_of}
 use Rattle.dm_schedule.specs.declared.line.Line.{Line}
 use Rattle.dm_schedule.specs.declared.line.Line.TheVariants as line
-use Rattle.dm_schedule.specs.Fields.{Words, ◌>>=◌, made, check, or_fault, word_at, fixed, counted, u8_at, u16_at, u32_at, i64_at, numbers_from}
+use Rattle.dm_schedule.specs.Fields.{Words, ◌>>=◌, made, check, or_fault, word_at, fixed_word, word_count, u8_at, u16_at, u32_at, i64_at, numbers_from}
 use Rattle.dm_schedule.specs.Ranges.{are_keys}
 
 -- the fixed words of a header
 unfoldable pub header_words : Words → Result (Unit {0}) LineFault
 header_words ws = do
-  sites ← fixed ws 0 (codes "sites")
-  parts ← fixed ws 2 (codes "parts")
-  width ← fixed ws 4 (codes "width")
-  fixed ws 6 (codes "masters")
+  sites ← fixed_word ws 0 (codes "sites")
+  parts ← fixed_word ws 2 (codes "parts")
+  width ← fixed_word ws 4 (codes "width")
+  fixed_word ws 6 (codes "masters")
 
 -- the masters are as many as the partitions, where the number of partitions is a number
 abbrev pub is_for_parts : Option ℕ → ℕ → Bool
@@ -59,8 +59,8 @@ route_count ws = check Count ((length ws == 4) || is_between (5 + 1) (5 + 32) (l
 -- `route S at I keys K ..`, or `route S at I` where no key is declared
 unfoldable pub route_of : Layout → Words → Result Line LineFault
 route_of layout ws = do
-  at ← fixed ws 2 (codes "at")
-  keys ← fixed ws 4 (codes "keys")
+  at ← fixed_word ws 2 (codes "at")
+  keys ← fixed_word ws 4 (codes "keys")
   count ← route_count ws
   session ← u32_at ws 1
   site ← u8_at ws 3
@@ -73,7 +73,7 @@ route_of layout ws = do
 -- the session of `begin S`, `commit S` and `reply S`
 unfoldable pub session_of : Words → Result ℕ LineFault
 session_of ws = do
-  count ← counted ws 2 2
+  count ← word_count ws 2 2
   session ← u32_at ws 1
   range ← check Range (is_between 1 32 session)
   Ok session
@@ -81,7 +81,7 @@ session_of ws = do
 -- `get S K`
 unfoldable pub get_of : Layout → Words → Result Line LineFault
 get_of layout ws = do
-  count ← counted ws 3 3
+  count ← word_count ws 3 3
   session ← u32_at ws 1
   key ← u32_at ws 2
   range ← check Range (is_between 1 32 session)
@@ -91,7 +91,7 @@ get_of layout ws = do
 -- the session, the key and the last number of `put S K V` and `add S K D`
 unfoldable pub write_of : Layout → Words → Result (ℕ × ℕ × ℤ) LineFault
 write_of layout ws = do
-  count ← counted ws 4 4
+  count ← word_count ws 4 4
   session ← u32_at ws 1
   key ← u32_at ws 2
   number ← i64_at ws 3
@@ -102,7 +102,7 @@ write_of layout ws = do
 -- `refresh I J`
 unfoldable pub refresh_of : Layout → Words → Result Line LineFault
 refresh_of layout ws = do
-  count ← counted ws 3 3
+  count ← word_count ws 3 3
   site ← u8_at ws 1
   origin ← u8_at ws 2
   range ← check Range (is_site layout site)

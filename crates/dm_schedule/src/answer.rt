@@ -10,7 +10,7 @@ use dm_core::Book;
 use dm_event::{Choice, NoMemory, Said, SiteNo, TxnId, Value, Vector, Why};
 use dm_history::{ChoiceText, put_why};
 use dm_report::put_reply;
-use dm_text::{TxnText, VectorText};
+use dm_text::{TxnText, VectorText, put_text};
 use std::alloc::Global;
 
 /// What a command line is answered.
@@ -56,19 +56,13 @@ pub(crate) enum Answer {
     RefusedOps,
 }
 
-fn append(out: &mut Vec<u8>, text: &str) -> Result<(), NoMemory>
-    ensures { Appends result out.old.items out.new.items text.now }
-{
-    Ok(out.extend_from_slice(text.as_bytes())?)
-}
-
 /// Appends the line of a refusal.
 pub(crate) fn put_refused(alloc: Global, out: &mut Vec<u8>, why: &Why) -> Result<(), NoMemory>
     ensures { Appends result out.old.items out.new.items (codes "refused " ++ (why_text why.now ++ codes "\n")) }
 {
-    append(out, "refused ")?;
+    put_text(out, "refused ")?;
     put_why(alloc, out, why)?;
-    append(out, "\n")
+    put_text(out, "\n")
 }
 
 /// Appends the line of an answer. The book has the step that the command line has brought.
@@ -85,7 +79,7 @@ pub(crate) fn put_answer(
         Answer::Routed { txn, site, choice } => {
             let txn = TxnText(&txn);
             let choice = ChoiceText(choice);
-            append(
+            put_text(
                 out,
                 &format!(in alloc; "routed {txn} to {site} {choice}\n")?,
             )
@@ -93,21 +87,21 @@ pub(crate) fn put_answer(
         Answer::Begun { txn, site, begin } => {
             let txn = TxnText(&txn);
             let begin = VectorText(&begin);
-            append(out, &format!(in alloc; "begun {txn} at {site} {begin}\n")?)
+            put_text(out, &format!(in alloc; "begun {txn} at {site} {begin}\n")?)
         }
-        Answer::Value { value } => append(out, &format!(in alloc; "value {value}\n")?),
-        Answer::Put => append(out, "put\n"),
-        Answer::Added => append(out, "added\n"),
+        Answer::Value { value } => put_text(out, &format!(in alloc; "value {value}\n")?),
+        Answer::Put => put_text(out, "put\n"),
+        Answer::Added => put_text(out, "added\n"),
         Answer::Committed { site, seq, vector } => {
             let vector = VectorText(&vector);
-            append(
+            put_text(
                 out,
                 &format!(in alloc; "committed {site}.{seq} {vector}\n")?,
             )
         }
         Answer::Ended { begin } => {
             let begin = VectorText(&begin);
-            append(out, &format!(in alloc; "ended {begin}\n")?)
+            put_text(out, &format!(in alloc; "ended {begin}\n")?)
         }
         Answer::Replied {
             session,
@@ -116,9 +110,9 @@ pub(crate) fn put_answer(
         } => put_reply(alloc, out, book, session, number, &said),
         Answer::Refreshed { site, vector } => {
             let vector = VectorText(&vector);
-            append(out, &format!(in alloc; "refreshed {site} {vector}\n")?)
+            put_text(out, &format!(in alloc; "refreshed {site} {vector}\n")?)
         }
         Answer::Refused(why) => put_refused(alloc, out, &why),
-        Answer::RefusedOps => append(out, "refused ops\n"),
+        Answer::RefusedOps => put_text(out, "refused ops\n"),
     }
 }

@@ -2,7 +2,7 @@
 
 ghost use Rattle.std.specs.Prelude.{◌≡◌, ◌≤◌, ◌-◌, ◌^◌, [], IfOk, OnOk, length};
 ghost use Rattle.std.specs.Str.{bytes_eq};
-ghost use Rattle.dm_schedule.specs.Fields.{Gives, spelled, check, word_at, fixed, counted, canonical, u8_at, u16_at, u32_at, i64_at, numbers_from};
+ghost use Rattle.dm_schedule.specs.Fields.{Gives, spelled, check, word_at, fixed_word, word_count, canonical, u8_at, u16_at, u32_at, i64_at, numbers_from};
 
 use crate::fault::LineError;
 use dm_event::{Key, LineFault, SiteNo};
@@ -36,9 +36,9 @@ pub(crate) fn require(fault: LineFault, holds: bool) -> Result<(), LineError>
 }
 
 /// A word that is there and isn't the fixed word of its place is a fault.
-#[tactic(auto, unfolding(crate::specs::Fields::fixed))]
-pub(crate) fn fixed(words: &[&[u8]], n: usize, text: &[u8]) -> Result<(), LineError>
-    ensures { Gives (λ x. x) result (fixed (spelled words.now) n text.now) }
+#[tactic(auto, unfolding(crate::specs::Fields::fixed_word))]
+pub(crate) fn fixed_word(words: &[&[u8]], n: usize, text: &[u8]) -> Result<(), LineError>
+    ensures { Gives (λ x. x) result (fixed_word (spelled words.now) n text.now) }
 {
     require(
         LineFault::Word,
@@ -47,9 +47,9 @@ pub(crate) fn fixed(words: &[&[u8]], n: usize, text: &[u8]) -> Result<(), LineEr
 }
 
 /// The line has from `least` to `most` words.
-#[tactic(auto, unfolding(crate::specs::Fields::counted))]
-pub(crate) fn counted(words: &[&[u8]], least: usize, most: usize) -> Result<(), LineError>
-    ensures exact { Gives (λ x. x) result (counted (spelled words.now) least most) }
+#[tactic(auto, unfolding(crate::specs::Fields::word_count))]
+pub(crate) fn word_count(words: &[&[u8]], least: usize, most: usize) -> Result<(), LineError>
+    ensures exact { Gives (λ x. x) result (word_count (spelled words.now) least most) }
     ensures least { OnOk result (least ≤ length words.now) }
 {
     require(

@@ -1,17 +1,17 @@
 //! What a line says, by its words.
 
 ghost use Rattle.std.specs.Prelude.{◌≡◌, ◌≤◌, ◌<◌, All, IfOk, OnOk, IsTrue, length, drop};
-ghost use Rattle.dm_event.specs.Layout.{is_between, is_layout, key_count, is_site, is_key};
+ghost use Rattle.dm_event.specs.Layout.{is_layout, key_count};
 ghost use Rattle.dm_schedule.specs.Fields.{Gives, spelled};
 ghost use Rattle.dm_schedule.specs.Ranges.{Fits, IsSession, are_keys};
 ghost use Rattle.dm_schedule.specs.Reading.{header_words, header_count, header_of, is_for_parts, declared_of, route_count, route_of, session_of, get_of, write_of, refresh_of, line_of};
 
 use crate::fault::LineError;
 use crate::fields::{
-    counted, fixed, i64_at, is, keys_of, require, sites_of, u8_at, u16_at, u32_at, word,
+    word_count, fixed_word, i64_at, is, keys_of, require, sites_of, u8_at, u16_at, u32_at, word,
 };
 use crate::line::Line;
-use dm_event::{Key, Keys, LineFault, Schema, SiteNo, Value, Want, Weights};
+use dm_event::{Key, Keys, LineFault, MAX_KEYS, Schema, Value, Want, Weights};
 use dm_text::number;
 use std::alloc::Global;
 
@@ -26,10 +26,10 @@ const EVEN: Weights = Weights {
 fn header_words(words: &[&[u8]]) -> Result<(), LineError>
     ensures { Gives (λ x. x) result (header_words (spelled words.now)) }
 {
-    fixed(words, 0, b"sites")?;
-    fixed(words, 2, b"parts")?;
-    fixed(words, 4, b"width")?;
-    fixed(words, 6, b"masters")
+    fixed_word(words, 0, b"sites")?;
+    fixed_word(words, 2, b"parts")?;
+    fixed_word(words, 4, b"width")?;
+    fixed_word(words, 6, b"masters")
 }
 
 // Whether there are as many masters as partitions, where that number is one.
@@ -71,36 +71,11 @@ pub(crate) fn header_of(alloc: Global, words: &[&[u8]]) -> Result<Schema, LineEr
     ))
 }
 
-fn is_session(session: u32) -> bool
-    ensures { result ≡ is_between 1 32 session }
-{
-    1 <= session && session <= 32
-}
-
-fn is_site(schema: &Schema, site: SiteNo) -> bool
-    ensures { result ≡ is_site schema.now site }
-{
-    1 <= site && site <= schema.sites()
-}
-
-fn key_count(schema: &Schema) -> u64
-    ensures { result ≡ key_count schema.now }
-{
-    u64::from(schema.parts()) * u64::from(schema.width())
-}
-
-fn is_key(schema: &Schema, key: Key) -> bool
-    ensures { result ≡ is_key schema.now key }
-{
-    u64::from(key) < key_count(schema)
-}
-
 #[tactic(auto, unfolding(crate::specs::Ranges::are_keys))]
 fn are_keys(schema: &Schema, keys: &[Key]) -> bool
     ensures { result ≡ are_keys schema.now keys.now }
 {
-    let count = key_count(schema);
-    keys.iter().all(|key| u64::from(*key) < count)
+    keys.iter().all(|key| schema.is_key(*key))
 }
 
 #[tactic(auto, unfolding(crate::specs::Reading::declared_of))]
@@ -130,7 +105,7 @@ fn route_count(words: &[&[u8]]) -> Result<(), LineError>
     let count = words.len();
     require(
         LineFault::Count,
-        count == 4 || 5 + 1 <= count && count <= 5 + 32,
+        count == 4 || 5 + 1 <= count && count <= 5 + MAX_KEYS,
     )
 }
 
@@ -139,14 +114,14 @@ fn route_of(alloc: Global, schema: &Schema, words: &[&[u8]]) -> Result<Line, Lin
     ensures exact { Gives (λ x. x) result (route_of schema.now (spelled words.now)) }
     ensures fit { IfOk result (λ line. Fits schema.now line) }
 {
-    fixed(words, 2, b"at")?;
-    fixed(words, 4, b"keys")?;
+    fixed_word(words, 2, b"at")?;
+    fixed_word(words, 4, b"keys")?;
     route_count(words)?;
     let session = u32_at(words, 1)?;
     let site = u8_at(words, 3)?;
     let keys = keys_of(alloc, words_from(words, 5))?;
-    require(LineFault::Range, is_session(session))?;
-    require(LineFault::Range, is_site(schema, site))?;
+    require(LineFault::Range, Schema::is_session(session))?;
+    require(LineFault::Range, schema.is_site(site))?;
     let declared = declared_of(schema, keys)?;
     Ok(Line::Route {
         session,
@@ -160,9 +135,9 @@ fn session_of(words: &[&[u8]]) -> Result<u32, LineError>
     ensures exact { Gives (λ x. x) result (session_of (spelled words.now)) }
     ensures fits { IfOk result (λ session. IsSession session) }
 {
-    counted(words, 2, 2)?;
+    word_count(words, 2, 2)?;
     let session = u32_at(words, 1)?;
-    require(LineFault::Range, is_session(session))?;
+    require(LineFault::Range, Schema::is_session(session))?;
     Ok(session)
 }
 
@@ -171,11 +146,11 @@ fn get_of(schema: &Schema, words: &[&[u8]]) -> Result<Line, LineError>
     ensures exact { Gives (λ x. x) result (get_of schema.now (spelled words.now)) }
     ensures fit { IfOk result (λ line. Fits schema.now line) }
 {
-    counted(words, 3, 3)?;
+    word_count(words, 3, 3)?;
     let session = u32_at(words, 1)?;
     let key = u32_at(words, 2)?;
-    require(LineFault::Range, is_session(session))?;
-    require(LineFault::Range, is_key(schema, key))?;
+    require(LineFault::Range, Schema::is_session(session))?;
+    require(LineFault::Range, schema.is_key(key))?;
     Ok(Line::Get { session, key })
 }
 
@@ -185,12 +160,12 @@ fn write_of(schema: &Schema, words: &[&[u8]]) -> Result<(u32, Key, Value), LineE
     ensures session { IfOk result (λ write. IsSession write.0) }
     ensures key { IfOk result (λ write. write.1 < key_count schema.now) }
 {
-    counted(words, 4, 4)?;
+    word_count(words, 4, 4)?;
     let session = u32_at(words, 1)?;
     let key = u32_at(words, 2)?;
     let value = i64_at(words, 3)?;
-    require(LineFault::Range, is_session(session))?;
-    require(LineFault::Range, is_key(schema, key))?;
+    require(LineFault::Range, Schema::is_session(session))?;
+    require(LineFault::Range, schema.is_key(key))?;
     Ok((session, key, value))
 }
 
@@ -199,11 +174,11 @@ fn refresh_of(schema: &Schema, words: &[&[u8]]) -> Result<Line, LineError>
     ensures exact { Gives (λ x. x) result (refresh_of schema.now (spelled words.now)) }
     ensures fit { IfOk result (λ line. Fits schema.now line) }
 {
-    counted(words, 3, 3)?;
+    word_count(words, 3, 3)?;
     let site = u8_at(words, 1)?;
     let origin = u8_at(words, 2)?;
-    require(LineFault::Range, is_site(schema, site))?;
-    require(LineFault::Range, is_site(schema, origin))?;
+    require(LineFault::Range, schema.is_site(site))?;
+    require(LineFault::Range, schema.is_site(origin))?;
     Ok(Line::Refresh { site, origin })
 }
 

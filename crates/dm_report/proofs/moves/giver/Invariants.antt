@@ -6,4 +6,4 @@ use Rattle.dm_report.specs.Moves.{released_by}
 use Rattle.dm_report.proofs.moves.giver.Given as goal
 
 abbrev pub invariant-loop-i : goal.invariant-loop-i
-invariant-loop-i l = l.last ≡ latest (released_by l.part) (acts (reverse (take l.i l.steps)))
+invariant-loop-i l = l.last ≡ latest (released_by l.part) (acts (reverse (take l.i l.book.steps)))

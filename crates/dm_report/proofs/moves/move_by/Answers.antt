@@ -1,4 +1,4 @@
-use Rattle.std.proofs.Common.{◌∷◌, Option, ap, sym, ◌∙◌}
+use Rattle.std.proofs.Common.{◌∷◌, Option, ap, sym, ◌∙◌, take}
 use Rattle.std.specs.List.{cons_option}
 use Rattle.std.specs.Prelude.{reverse}
 use Rattle.dm_event.specs.declared.step.Pending.{Pending}
@@ -11,13 +11,13 @@ use Rattle.dm_report.proofs.moves.move_by.Goals as goal
 
 pub returns-in-Grant : goal.returns-in-Grant
 returns-in-Grant c =
-    let past = reverse c.args.before.now in
+    let past = reverse (take c.args.place c.args.book.now.steps) in
     move_granted c.args.step.now past c.in-Grant.site c.in-Grant.part c.in-Grant.epoch c.in-Grant.vector c.in-Grant.is
     ∙ ap (λ (m : Move). m ∷ moves_by (acts past)) (sym c.taken.ensures)
 
 pub returns-in-Restart : goal.returns-in-Restart
 returns-in-Restart c =
-    let past = reverse c.args.before.now in
+    let past = reverse (take c.args.place c.args.book.now.steps) in
     move_kept c.args.step.now past c.in-Restart.site c.in-Restart.vector c.in-Restart.found c.in-Restart.is
-    ∙ ap (λ (o : Option Pending). cons_option (kept_move (acts past) c.in-Restart.site c.in-Restart.found o) (moves_by (acts past))) (sym c.pending_at.ensures)
+    ∙ ap (λ (o : Option Pending). cons_option (kept_move (acts past) c.in-Restart.site c.in-Restart.found o) (moves_by (acts past))) (sym c.pending_before-pending.ensures)
     ∙ ap (λ (o : Option Move). cons_option o (moves_by (acts past))) (sym c.kept_move.ensures)

@@ -1,7 +1,13 @@
-use Rattle.std.proofs.Common.{◌≡◌, take}
-use Rattle.std.specs.Prelude.{reverse, option_copied}
+use Rattle.std.proofs.Common.{◌≡◌, ◌≤◌, length, take}
+use Rattle.std.specs.Prelude.{reverse}
 use Rattle.dm_report.specs.Replies.{item_reads}
 use Rattle.dm_report.proofs.reply.item_reads.Given as goal
 
-abbrev pub invariant-loop-step : goal.invariant-loop-step
-invariant-loop-step l = option_copied l.last ≡ item_reads l.session l.number (reverse (take l.step-index l.steps))
+abbrev pub invariant-loop-place : goal.invariant-loop-place
+invariant-loop-place l = record {
+  within : l.place ≤ length l.steps;
+  found : item_reads l.session l.number (reverse (take l.place l.steps)) ≡ item_reads l.session l.number (reverse l.steps);
+}
+
+abbrev pub decreases-loop-place : goal.decreases-loop-place
+decreases-loop-place l = l.place
