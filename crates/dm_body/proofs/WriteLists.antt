@@ -9,6 +9,7 @@ use lib.Pointwise.{pointwise_decides}
 use Rattle.dm_event.specs.declared.step.Pair.{Pair}
 use Rattle.dm_event.specs.declared.step.Op.{Op}
 use Rattle.dm_event.specs.declared.step.Op.TheVariants.{Read, Write, Add}
+use Rattle.dm_model.proofs.SameValues.{pairs_decide}
 use Rattle.dm_model.specs.Tests.{same_pair, same_pairs}
 use Rattle.dm_model.specs.Values.{written}
 use Rattle.dm_model.specs.Bodies.{put, Ran, after_op, run_from, body, written_key}
@@ -17,19 +18,6 @@ use Rattle.dm_body.specs.Fitting.{is_value}
 use Rattle.dm_body.proofs.OwnWrites.{written-put}
 
 -- ---- the tests
-
-pair_is : (a b : Pair) → same_pair a b ≡ true → a ≡ b
-pair_is a b h =
-    let p = and_parts (a.key == b.key) (int_eq a.value b.value) h in
-    let x = eqb-true a.key b.key p.0 in
-    let y = (Decides-int_eq a.value b.value).0 p.1 in
-    λ i. record { key = x i; value = y i }
-
-pair_same : (a : Pair) → same_pair a a ≡ true
-pair_same a = and_from (a.key == a.key) (int_eq a.value a.value) (eq-eqb a.key a.key refl) ((Decides-int_eq a.value a.value).1 refl)
-
-pairs_decide : (xs ys : List Pair) → (same_pairs xs ys ≡ true → xs ≡ ys) × (xs ≡ ys → same_pairs xs ys ≡ true)
-pairs_decide = pointwise_decides {E = same_pair} (λ a b. (pair_is a b, λ e. subst (λ (c : Pair). same_pair a c ≡ true) e (pair_same a)))
 
 same_bools : (r s : Bool) → (r ≡ true → s ≡ true) → (s ≡ true → r ≡ true) → r ≡ s
 same_bools true s h k = sym (h refl)

@@ -16,7 +16,8 @@ use Rattle.dm_model.specs.Doubts.{step_of, pending_at}
 use Rattle.dm_model.specs.Legal.{LegalPast}
 use Rattle.dm_model.specs.Placings.{placing, home_now, asked, settled, after_acts}
 use Rattle.dm_model.specs.Shape.{is_shaped}
-use Rattle.dm_plain.proofs.Legality.{shape_of, pending_shaped}
+use Rattle.dm_model.proofs.Judged.{shape_of}
+use Rattle.dm_plain.proofs.Legality.{pending_shaped}
 
 -- the number is a site's
 abbrev pub InSites : ℕ → ℕ → Type 0

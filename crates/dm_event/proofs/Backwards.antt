@@ -1,14 +1,9 @@
 -- A list read from its end.
 use Rattle.std.proofs.Common.{ℕ, zero, suc, ◌+◌, ◌<◌, ◌≡◌, List, [], ◌∷◌, ◌++◌, length, take, get_or, refl, ap, ◌∙◌, arith, add-one}
 use Rattle.std.specs.Prelude.{reverse}
-use Rattle.std.proofs.lemmas.List.{reverse-append}
-
-take_more : {X : Type 0} (xs : List X) (i : ℕ) (d : X) → i < length xs → take (suc i) xs ≡ take i xs ++ get_or xs i d ∷ []
-take_more {X = X} [] i d h = absurd (omega (arith, h))
-take_more {X = X} (x ∷ xs) zero d h = refl
-take_more {X = X} (x ∷ xs) (suc i) d h = ap (λ (l : List X). x ∷ l) (take_more xs i d (omega (arith, h)))
+use Rattle.std.proofs.lemmas.List.{reverse-append, take_more}
 
 -- one element more of the front stands first, from the end
 pub reverse_take : {X : Type 0} (xs : List X) (i : ℕ) (d : X) → i < length xs → reverse (take (i + 1) xs) ≡ get_or xs i d ∷ reverse (take i xs)
 reverse_take {X = X} xs i d h =
-    ap (λ (n : ℕ). reverse (take n xs)) (add-one i) ∙ ap (λ (l : List X). reverse l) (take_more xs i d h) ∙ reverse-append (take i xs) (get_or xs i d ∷ [])
+    ap (λ (l : List X). reverse l) (take_more xs i d h) ∙ reverse-append (take i xs) (get_or xs i d ∷ [])

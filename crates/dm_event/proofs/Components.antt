@@ -1,6 +1,7 @@
 -- The components of a vector, and the eight numbers that hold them.
-use Rattle.std.proofs.Common.{ℕ, zero, suc, ◌-◌, ◌<◌, ◌≤◌, ◌≡◌, List, [], ◌∷◌, ◌++◌, length, take, get_or, refl, ap, sym, ◌∙◌, arith, inl, inr, max}
-use Rattle.std.specs.Prelude.{replicate}
+use Rattle.std.proofs.Common.{ℕ, zero, suc, ◌+◌, ◌-◌, ◌<◌, ◌≤◌, ◌≡◌, List, [], ◌∷◌, ◌++◌, length, take, get_or, refl, ap, sym, ◌∙◌, arith, inl, inr, max}
+use Rattle.std.specs.List.{range_with_len}
+use Rattle.std.specs.Prelude.{map, replicate}
 use Rattle.std.proofs.lemmas.Bool.{cases_lt}
 use Rattle.std.proofs.lemmas.List.{length-take-le}
 use Rattle.dm_event.specs.Numbers.{padded}
@@ -76,6 +77,25 @@ joined_fields n m k p q r u v e f l a b x y z g h =
     ∙ joined n p q r (omega (arith, a, x)) (omega (arith, a, y)) (omega (arith, a, z)) (λ i j. h i (omega (arith, j, a)))
     ∙ ap (λ (w : List ℕ). join w (take n q)) e
     ∙ ap (λ (w : List ℕ). join u w) (ap (λ (i : ℕ). take i q) (sym same) ∙ f)
+
+-- two lists of one length with the same components are one
+pub same_components : (u v : List ℕ) → length u ≡ length v → ((k : ℕ) → k < length u → get_or u k 0 ≡ get_or v k 0) → u ≡ v
+same_components [] [] l h = refl
+same_components [] (y ∷ v) l h = absurd (omega (arith, l))
+same_components (x ∷ u) [] l h = absurd (omega (arith, l))
+same_components (x ∷ u) (y ∷ v) l h =
+    ap (λ (z : ℕ). z ∷ u) (h zero (omega arith))
+    ∙ ap (λ (w : List ℕ). y ∷ w) (same_components u v (omega (arith, l)) (λ k m. h (suc k) (omega (arith, m))))
+
+pub zeros_from : (a n : ℕ) → map (λ (site : ℕ). 0) (range_with_len a n) ≡ replicate {A = ℕ} n 0
+zeros_from a zero = refl
+zeros_from a (suc n) = ap (λ (v : List ℕ). 0 ∷ v) (zeros_from (a + 1) n)
+
+pub long_join : (u v : List ℕ) → length u ≡ length v → length (join u v) ≡ length u
+long_join [] [] h = refl
+long_join [] (y ∷ v) h = absurd (omega (arith, h))
+long_join (x ∷ u) [] h = absurd (omega (arith, h))
+long_join (x ∷ u) (y ∷ v) h = ap suc (long_join u v (omega (arith, h)))
 
 -- a component of the join is the greater of the two
 pub at_join : (u v : List ℕ) (k : ℕ) → get_or (join u v) k 0 ≡ max (get_or u k 0) (get_or v k 0)

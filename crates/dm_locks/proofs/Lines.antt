@@ -6,7 +6,7 @@ use Rattle.std.specs.Prelude.{option_map, unwrap_or}
 use Rattle.dm_event.specs.declared.step.TxnId.{TxnId}
 use Rattle.dm_locks.proofs.Answers.{got_where_none}
 use Rattle.dm_locks.proofs.Counts.{count-append, count_none, each_both}
-use Rattle.dm_locks.proofs.Members.{In, each_at, each_from, found_in, in_contains, in_counted, in_from, in_left, in_right, not_both_in_front, txn_self}
+use Rattle.dm_locks.proofs.Members.{In, each_at, each_from, found_in, in_contains, in_counted, in_from, in_left, in_right, not_both_in_front}
 use Rattle.dm_locks.proofs.Merging.{found_among}
 use Rattle.dm_locks.proofs.Overtaking.{Kept, run_kept}
 use Rattle.dm_locks.proofs.Places.{filter_keeps}
@@ -16,7 +16,7 @@ use Rattle.dm_locks.specs.Claims.{answer, before, is_of, is_of_session, without}
 use Rattle.dm_locks.specs.Locks.{Locks, ahead, answer_at_poll}
 use Rattle.dm_locks.specs.declared.claim.Claim.{Claim}
 use Rattle.dm_locks.specs.declared.table.LockAnswer.TheVariants.{Got}
-use Rattle.dm_model.proofs.SameValues.{txn_same}
+use Rattle.dm_model.proofs.SameValues.{txn_same, txn_own}
 use Rattle.dm_model.proofs.ListFacts.{each_map, found_holds}
 use Rattle.dm_model.specs.Allowed.{common_key}
 use Rattle.dm_model.specs.Tests.{is_among}
@@ -68,7 +68,7 @@ pub share_from : (a b : Claim) (key : ℕ) → common_key a.keys b.keys ≡ Some
 share_from a b key e = (key, found_among (is_among b.keys) key a.keys e, found_holds (is_among b.keys) a.keys key e)
 
 front_nobody : (first : Claim) (rest : List Claim) → Each (λ c. ⊥) (before first.txn (first ∷ rest))
-front_nobody first rest = by_test (is_of first.txn first) (txn_self first.txn)
+front_nobody first rest = by_test (is_of first.txn first) (txn_own first.txn)
   where
     by_test : (b : Bool) → b ≡ true → Each (λ (c : Claim). ⊥) (cond b [] (first ∷ before first.txn rest))
     by_test true e = tt
@@ -121,7 +121,7 @@ none_left [] (c ∷ cs) h = absurd h.0
 none_left (x ∷ xs) cs h = none_left xs (without x.txn cs) (each_left (λ c. In c (x ∷ xs)) (λ c. In c xs) (λ c. not (is_of x.txn c)) others cs h)
   where
     others : (c : Claim) → In c (x ∷ xs) → not (is_of x.txn c) ≡ true → In c xs
-    others c (inl e) n = absurd (false≢true (sym (ap (λ (b : Bool). not b) (ap (λ (z : Claim). is_of x.txn z) (sym e) ∙ txn_self x.txn)) ∙ n))
+    others c (inl e) n = absurd (false≢true (sym (ap (λ (b : Bool). not b) (ap (λ (z : Claim). is_of x.txn z) (sym e) ∙ txn_own x.txn)) ∙ n))
     others c (inr m) n = m
 
 all_left : (xs cs : List Claim) → Each (λ x. Each (λ c. is_of x.txn c ≡ false) cs) xs → removed xs cs ≡ cs

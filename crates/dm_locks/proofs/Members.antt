@@ -7,6 +7,7 @@ use Rattle.dm_event.specs.Txns.{same_txn}
 use Rattle.dm_event.specs.declared.step.TxnId.{TxnId}
 use Rattle.dm_locks.specs.Claims.{before, claim_of, is_of, without}
 use Rattle.dm_locks.specs.declared.claim.Claim.{Claim}
+use Rattle.dm_model.proofs.SameValues.{txn_own}
 use Rattle.dm_model.proofs.SameValues.{txn_same}
 use Rattle.dm_model.specs.Words.{count_of}
 
@@ -64,11 +65,6 @@ found_in p x (y ∷ ys) h = by_test (p y) (found_in p x ys) h
     by_test true rest e = inl (cc (e))
     by_test false rest e = inr (rest e)
 
--- ---- transactions
-
-pub txn_self : (txn : TxnId) → same_txn txn txn ≡ true
-txn_self txn = and_from (txn.session == txn.session) _ (eq-eqb txn.session txn.session refl) (and_from (txn.number == txn.number) _ (eq-eqb txn.number txn.number refl) (eq-eqb txn.attempt txn.attempt refl))
-
 -- ---- in front
 
 before_step : (txn : TxnId) (claim other : Claim) (claims more : List Claim) (b : Bool) → cond b (Some other) (claim_of txn claims) ≡ Some claim
@@ -107,8 +103,8 @@ not_both_in_front x y (c ∷ cs) m n = by_tests (is_of y.txn c) (is_of x.txn c) 
         → (In x (before y.txn cs) → In y (before x.txn cs) → ⊥) → ⊥
     by_tests true d q r m n rest = m
     by_tests false true q r m n rest = n
-    by_tests false false q r (inl e) n rest = false≢true (sym r ∙ ap (λ (z : Claim). is_of x.txn z) e ∙ txn_self x.txn)
-    by_tests false false q r (inr m) (inl e) rest = false≢true (sym q ∙ ap (λ (z : Claim). is_of y.txn z) e ∙ txn_self y.txn)
+    by_tests false false q r (inl e) n rest = false≢true (sym r ∙ ap (λ (z : Claim). is_of x.txn z) e ∙ txn_own x.txn)
+    by_tests false false q r (inr m) (inl e) rest = false≢true (sym q ∙ ap (λ (z : Claim). is_of y.txn z) e ∙ txn_own y.txn)
     by_tests false false q r (inr m) (inr n) rest = rest m n
 
 -- ---- without a transaction
@@ -132,7 +128,7 @@ before_without R a t n (c ∷ cs) h = by_tests (is_of a c) (is_of t c) refl refl
     by_tests true true q r h rest =
         let e : c.txn ≡ a = txn_same c.txn a q in
         let f : c.txn ≡ t = txn_same c.txn t r in
-        absurd (false≢true (sym n ∙ ap (λ (z : TxnId). same_txn a z) (sym f ∙ e) ∙ txn_self a))
+        absurd (false≢true (sym n ∙ ap (λ (z : TxnId). same_txn a z) (sym f ∙ e) ∙ txn_own a))
     by_tests true false q r h rest = subst (λ (b : Bool). Each R (cond b [] (c ∷ before a (without t cs)))) (sym q) tt
     by_tests false true q r h rest = rest h.1
     by_tests false false q r h rest = subst (λ (b : Bool). Each R (cond b [] (c ∷ before a (without t cs)))) (sym q) (h.0, rest h.1)

@@ -7,13 +7,13 @@ use Rattle.dm_event.specs.Txns.{same_txn}
 use Rattle.dm_event.specs.declared.step.TxnId.{TxnId}
 use Rattle.dm_locks.proofs.Answers.{got_from, got_shares_none}
 use Rattle.dm_locks.proofs.Counts.{each_both, each_filter}
-use Rattle.dm_locks.proofs.Members.{In, before_asked, before_without, each_at, found_in, gone, in_right, one_in_front, txn_self}
+use Rattle.dm_locks.proofs.Members.{In, before_asked, before_without, each_at, found_in, gone, in_right, one_in_front}
 use Rattle.dm_locks.specs.Calls.{Call, Ask, Poll, GiveBack, Clear, IsWaiting, Share, WaitsOn, after, after_all}
 use Rattle.dm_locks.specs.Claims.{answer, before, claim_of, is_of, without}
 use Rattle.dm_locks.specs.Locks.{Locks, ahead, answer_at_poll, asked, everyone, granted, is_got, keys_of, polled}
 use Rattle.dm_locks.specs.declared.claim.Claim.{Claim}
 use Rattle.dm_locks.specs.declared.table.LockAnswer.TheVariants.{Got}
-use Rattle.dm_model.proofs.SameValues.{txn_same}
+use Rattle.dm_model.proofs.SameValues.{txn_same, txn_own}
 use Rattle.dm_model.proofs.KeysAndBodies.{no_common}
 use Rattle.dm_model.proofs.ListFacts.{found_holds}
 use Rattle.dm_model.specs.Allowed.{common_key}
@@ -64,7 +64,7 @@ polled_kept Q R claim txn locks rq waits later h = by_answer (is_got (answer_at_
       | inl same ↦
           let a : mover.txn ≡ claim.txn = txn_same mover.txn claim.txn same in
           let b : mover.txn ≡ txn = txn_same mover.txn txn (found_holds (is_of txn) locks.waiters mover found) in
-          absurd (false≢true (sym other ∙ ap (λ (t : TxnId). same_txn claim.txn t) (sym b ∙ a) ∙ txn_self claim.txn))
+          absurd (false≢true (sym other ∙ ap (λ (t : TxnId). same_txn claim.txn t) (sym b ∙ a) ∙ txn_own claim.txn))
       | inr n ↦ n
     ]
 

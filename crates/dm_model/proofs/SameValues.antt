@@ -31,8 +31,14 @@ pair_same a b h =
     let y = (Decides-int_eq a.value b.value).0 p.1 in
     λ i. record { key = x i; value = y i }
 
+pair_own : (a : Pair) → same_pair a a ≡ true
+pair_own a = and_from (a.key == a.key) (int_eq a.value a.value) (eq-eqb a.key a.key refl) ((Decides-int_eq a.value a.value).1 refl)
+
+pub pairs_decide : (xs ys : List Pair) → (same_pairs xs ys ≡ true → xs ≡ ys) × (xs ≡ ys → same_pairs xs ys ≡ true)
+pairs_decide = pointwise_decides {E = same_pair} (λ a b. (pair_same a b, λ e. subst (λ (c : Pair). same_pair a c ≡ true) e (pair_own a)))
+
 pub pairs_same : (xs ys : List Pair) → same_pairs xs ys ≡ true → xs ≡ ys
-pairs_same xs ys h = (pointwise_decides {E = same_pair} (λ a b. (pair_same a b, λ e. subst (λ c. same_pair a c ≡ true) e (and_from (a.key == a.key) (int_eq a.value a.value) (eq-eqb a.key a.key refl) ((Decides-int_eq a.value a.value).1 refl)))) xs ys).0 h
+pairs_same xs ys h = (pairs_decide xs ys).0 h
 
 same_byte-own : (a : Option ℕ) → same_byte a a ≡ true
 same_byte-own None = refl

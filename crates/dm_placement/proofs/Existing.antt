@@ -9,6 +9,7 @@ use Rattle.dm_event.specs.declared.step.Step.{Step}
 use Rattle.dm_event.specs.declared.step.Step.TheVariants.{Route}
 use Rattle.dm_event.specs.declared.step.Want.TheVariants as want
 use Rattle.dm_event.specs.declared.why.Why.TheVariants as why
+use Rattle.dm_model.proofs.Judged.{shape_of}
 use Rattle.dm_model.proofs.ClausesHold.{all_hold, holds_true}
 use Rattle.dm_model.specs.Allowed.{Allowed, clauses}
 use Rattle.dm_model.specs.Clauses.{holds}
@@ -27,9 +28,6 @@ each_take : {X : Type 0} (P : X → Type 0) (n : ℕ) (xs : List X) → Each P x
 each_take P zero xs k = tt
 each_take P (suc n) [] k = tt
 each_take P (suc n) (x ∷ xs) k = (k.0, each_take P n xs k.1)
-
-shaped : (layout : Layout) (past : List Step) (s : Step) → Allowed layout past s → is_shaped layout s ≡ true
-shaped layout past s h = holds_true (is_shaped layout s) why.Shape (all_hold (holds (is_shaped layout s) why.Shape ∷ clauses layout past s) h).0
 
 -- the partition of a key that exists exists
 key_below : (layout : Layout) (key : ℕ) → is_key layout key ≡ true → key / layout.width < length layout.masters
@@ -52,7 +50,7 @@ keys_below layout (key ∷ keys) h p e =
 declared_below : (layout : Layout) (past : List Step) (s : Step) (parts : List ℕ) → Allowed layout past s → declared_parts layout s ≡ Some parts → Below (length layout.masters) parts
 declared_below layout past (Route txn (want.Txn (key ∷ keys)) min site choice) parts a e p among =
     let route = Route txn (want.Txn (key ∷ keys)) min site choice in
-    let wanted = (and_parts (is_want layout (want.Txn (key ∷ keys))) _ (and_parts (is_txn layout txn) _ (shaped layout past route a)).1).0 in
+    let wanted = (and_parts (is_want layout (want.Txn (key ∷ keys))) _ (and_parts (is_txn layout txn) _ (shape_of layout past route a)).1).0 in
     let exist = (and_parts (nat_le (length (key ∷ keys)) 32) _ (and_parts (is_ascending (key ∷ keys)) _ wanted).1).1 in
     let same : parts_of layout (key ∷ keys) ≡ parts = cc (e) in
     keys_below layout (key ∷ keys) exist p (sym (among_distinct (parts_in_order layout (key ∷ keys)) p) ∙ ap (λ (l : List ℕ). is_among l p) same ∙ among)

@@ -2,12 +2,12 @@
 use Rattle.std.proofs.Common.{ℕ, zero, suc, ◌+◌, ◌-◌, ◌*◌, ◌<◌, ◌≤◌, ◌≡◌, Bool, true, false, cond, List, [], ◌∷◌, ◌++◌, length, get_or, refl, sym, ap, ◌∙◌, arith, add-one, max}
 use Rattle.std.specs.List.{range_with_len, filter, sum_by}
 use Rattle.std.specs.Prelude.{map, replicate}
-use Rattle.std.proofs.lemmas.List.{map-append}
+use Rattle.std.proofs.lemmas.List.{map-append, append-nil}
 use Rattle.std.proofs.lemmas.List.Elements.{filter-append}
 use Rattle.std.proofs.lemmas.List.Sums.{sum_by_push}
 use Rattle.dm_event.specs.Parts.{has_part}
 use Rattle.dm_event.specs.Vectors.{at, sites_to, vector_by, greatest, join, join_all}
-use Rattle.dm_event.proofs.Components.{at_join}
+use Rattle.dm_event.proofs.Components.{at_join, same_components, zeros_from, long_join}
 use Rattle.dm_model.proofs.VectorFacts.{at_by, long_by}
 use Rattle.dm_placement.specs.Sets.{parts_in}
 use Rattle.dm_placement.proofs.Totals.{range_more}
@@ -19,24 +19,11 @@ greatest_push : (xs : List ℕ) (x : ℕ) → greatest (xs ++ x ∷ []) ≡ max 
 greatest_push [] x = grind arith
 greatest_push (y ∷ xs) x = let more = greatest_push xs x in grind (arith, more)
 
-same_components : (u v : List ℕ) → length u ≡ length v → ((k : ℕ) → k < length u → get_or u k 0 ≡ get_or v k 0) → u ≡ v
-same_components [] [] l h = refl
-same_components [] (y ∷ v) l h = absurd (omega (arith, l))
-same_components (x ∷ u) [] l h = absurd (omega (arith, l))
-same_components (x ∷ u) (y ∷ v) l h =
-    ap (λ (z : ℕ). z ∷ u) (h zero (omega arith)) ∙ ap (λ (w : List ℕ). y ∷ w) (same_components u v (omega (arith, l)) (λ k m. h (suc k) (omega (arith, m))))
-
 -- a list with these components is the vector of the function
 pub vector_is : (count : ℕ) (v : List ℕ) (f : ℕ → ℕ) → length v ≡ count → ((k : ℕ) → k < count → get_or v k 0 ≡ f (suc k)) → v ≡ vector_by count f
 vector_is count v f l h =
     same_components v (vector_by count f) (l ∙ sym (long_by count f))
     (λ k m. h k (omega (arith, l, m)) ∙ sym (at_by count f (suc k) (omega arith) (omega (arith, l, m))))
-
-long_join : (u v : List ℕ) → length u ≡ length v → length (join u v) ≡ length u
-long_join [] [] h = refl
-long_join [] (y ∷ v) h = absurd (omega (arith, h))
-long_join (x ∷ u) [] h = absurd (omega (arith, h))
-long_join (x ∷ u) (y ∷ v) h = ap suc (long_join u v (omega (arith, h)))
 
 pub join_push : (count : ℕ) (vs : List (List ℕ)) (v : List ℕ) → length v ≡ count → join (join_all count vs) v ≡ join_all count (vs ++ v ∷ [])
 join_push count vs v l =
@@ -58,10 +45,6 @@ filter_more t n b e =
     ∙ ap (λ (k : ℕ). filter t (range_with_len 0 n) ++ cond (t k) (k ∷ []) []) (let z : 0 + n ≡ n = omega arith in z)
     ∙ ap (λ (c : Bool). filter t (range_with_len 0 n) ++ cond c (n ∷ []) []) e
 
-append_none : {X : Type 0} (xs : List X) → xs ++ [] ≡ xs
-append_none [] = refl
-append_none (x ∷ xs) = ap (λ (l : List _). x ∷ l) (append_none xs)
-
 pub need_add : (count : ℕ) (t : ℕ → Bool) (g : ℕ → List ℕ) (n : ℕ) (need v : List ℕ) → need ≡ join_all count (map g (filter t (range_with_len 0 n))) → t n ≡ true → v ≡ g n → length v ≡ count
     → join need v ≡ join_all count (map g (filter t (range_with_len 0 (n + 1))))
 need_add count t g n need v before passes is l =
@@ -74,11 +57,7 @@ need_add count t g n need v before passes is l =
 pub need_skip : (count : ℕ) (t : ℕ → Bool) (g : ℕ → List ℕ) (n : ℕ) (need : List ℕ) → need ≡ join_all count (map g (filter t (range_with_len 0 n))) → t n ≡ false
     → need ≡ join_all count (map g (filter t (range_with_len 0 (n + 1))))
 need_skip count t g n need before fails =
-    before ∙ ap (λ (xs : List ℕ). join_all count (map g xs)) (sym (append_none (filter t (range_with_len 0 n))) ∙ sym (filter_more t n false fails))
-
-zeros_from : (a n : ℕ) → map (λ (site : ℕ). 0) (range_with_len a n) ≡ replicate {A = ℕ} n 0
-zeros_from a zero = refl
-zeros_from a (suc n) = ap (λ (v : List ℕ). 0 ∷ v) (zeros_from (a + 1) n)
+    before ∙ ap (λ (xs : List ℕ). join_all count (map g xs)) (sym (append-nil (filter t (range_with_len 0 n))) ∙ sym (filter_more t n false fails))
 
 -- the maximum of no vectors
 pub need_none : (count : ℕ) (t : ℕ → Bool) (g : ℕ → List ℕ) → replicate {A = ℕ} count 0 ≡ join_all count (map g (filter t (range_with_len 0 0)))
@@ -91,7 +70,7 @@ filter_past t n zero h = ap (λ (m : ℕ). filter t (range_with_len 0 m)) (let e
 filter_past t n (suc k) h =
     ap (λ (m : ℕ). filter t (range_with_len 0 m)) (let e : n + suc k ≡ n + k + 1 = omega arith in e)
     ∙ filter_more t (n + k) false (h (n + k) (omega arith))
-    ∙ append_none (filter t (range_with_len 0 (n + k)))
+    ∙ append-nil (filter t (range_with_len 0 (n + k)))
     ∙ filter_past t n k h
 
 -- where a set holds none past the first partitions, they are all

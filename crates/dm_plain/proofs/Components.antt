@@ -3,17 +3,9 @@ use Rattle.std.proofs.Common.{ℕ, zero, suc, ◌+◌, ◌<◌, ◌≤◌, ◌�
 use Rattle.std.specs.Prelude.{replicate, map, Option, Some, None, IfSome}
 use Rattle.std.specs.List.{range_with_len, cons_option}
 use Rattle.dm_event.specs.Vectors.{at, vector_by, join_all, join, greatest}
-use Rattle.dm_event.proofs.Components.{at_join}
+use Rattle.dm_event.proofs.Components.{at_join, same_components, zeros_from, long_join}
 use Rattle.dm_plain.specs.Adding.{join_one}
 use Rattle.dm_model.proofs.VectorFacts.{at_by, long_by}
-
--- two lists of one length with the same components are one
-same_components : (u v : List ℕ) → length u ≡ length v → ((k : ℕ) → k < length u → get_or u k 0 ≡ get_or v k 0) → u ≡ v
-same_components [] [] l h = refl
-same_components [] (y ∷ v) l h = absurd (omega (arith, l))
-same_components (x ∷ u) [] l h = absurd (omega (arith, l))
-same_components (x ∷ u) (y ∷ v) l h =
-    ap (λ (z : ℕ). z ∷ u) (h zero (omega arith)) ∙ ap (λ (w : List ℕ). y ∷ w) (same_components u v (omega (arith, l)) (λ k m. h (suc k) (omega (arith, m))))
 
 -- a vector with these components is the one of the function
 pub vector_is : (count : ℕ) (v : List ℕ) (f : ℕ → ℕ) → length v ≡ count → ((k : ℕ) → 1 ≤ k → k ≤ count → at v k ≡ f k) → v ≡ vector_by count f
@@ -21,19 +13,9 @@ vector_is count v f l h =
     same_components v (vector_by count f) (l ∙ sym (long_by count f))
     (λ k m. h (suc k) (omega arith) (omega (arith, l, m)) ∙ sym (at_by count f (suc k) (omega arith) (omega (arith, l, m))))
 
-zeros_from : (a n : ℕ) → map (λ (site : ℕ). 0) (range_with_len a n) ≡ replicate {A = ℕ} n 0
-zeros_from a zero = refl
-zeros_from a (suc n) = ap (λ (v : List ℕ). 0 ∷ v) (zeros_from (a + 1) n)
-
 -- the maximum of no vectors
 pub join_none : (count : ℕ) → replicate {A = ℕ} count 0 ≡ join_all count []
 join_none count = sym (zeros_from 1 count)
-
-long_join : (u v : List ℕ) → length u ≡ length v → length (join u v) ≡ length u
-long_join [] [] h = refl
-long_join [] (y ∷ v) h = absurd (omega (arith, h))
-long_join (x ∷ u) [] h = absurd (omega (arith, h))
-long_join (x ∷ u) (y ∷ v) h = ap suc (long_join u v (omega (arith, h)))
 
 -- the maximum with one vector more
 pub join_more : (count : ℕ) (v : List ℕ) (vs : List (List ℕ)) → length v ≡ count → join (join_all count vs) v ≡ join_all count (v ∷ vs)

@@ -29,6 +29,7 @@ use Rattle.dm_model.specs.Runs.{begin_of, runs, run_site, begin_vector}
 use Rattle.dm_model.specs.Sessions.{answered_by}
 use Rattle.dm_model.specs.Shape.{is_shaped, is_want, is_ascending}
 use Rattle.dm_model.specs.Words.{latest}
+use Rattle.dm_model.proofs.Judged.{shape_of}
 use Rattle.dm_model.proofs.LaggingRefresh.{Grounded, grounded_past}
 use Rattle.dm_model.proofs.VectorFacts.{long_raised}
 use Rattle.dm_model.proofs.ClausesHold.{all_hold, holds_true}
@@ -36,9 +37,6 @@ use Rattle.dm_model.proofs.ListFacts.{found_each, found_holds}
 use Rattle.dm_model.proofs.NumbersSound.{sound_past}
 use Rattle.dm_plain.specs.Adding.{said_vector}
 use Rattle.dm_plain.proofs.Entries.{few_entries}
-
-pub shape_of : (layout : Layout) (past : List Step) (s : Step) → Allowed layout past s → is_shaped layout s ≡ true
-shape_of layout past s h = holds_true _ _ (all_hold (holds (is_shaped layout s) why.Shape ∷ clauses layout past s) h).0
 
 -- ---- entries
 

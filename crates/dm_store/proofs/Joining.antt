@@ -6,14 +6,14 @@ use Rattle.std.proofs.lemmas.Bool.{leb-true, le-leb}
 use Rattle.std.proofs.lemmas.List.{reverse-append, reverse-reverse, map-append, append-nil}
 use Rattle.std.proofs.lemmas.List.Elements.{filter-append}
 use Rattle.dm_event.specs.Layout.{Layout, opening_value}
-use Rattle.dm_event.specs.Vectors.{at, AtMost}
+use Rattle.dm_event.specs.Vectors.{at, has_number, AtMost}
 use Rattle.dm_event.specs.declared.step.Entry.{Entry}
 use Rattle.dm_event.specs.declared.step.Step.{Step}
 use Rattle.dm_model.specs.Acts.{entries}
 use Rattle.dm_model.specs.Closed.{is_inside}
 use Rattle.dm_model.specs.Values.{written, newest, value}
 use Rattle.dm_store.specs.Histories.{past_of, committed, committed_inside, writers, HasInside}
-use Rattle.dm_store.specs.Reads.{latest_write, value_of, is_seen}
+use Rattle.dm_store.specs.Reads.{latest_write, value_of}
 use Rattle.dm_store.specs.declared.past.Past.{Past}
 
 map_reverse : {X Y : Type 0} (f : X → Y) (xs : List X) → map f (reverse xs) ≡ reverse (map f xs)
@@ -42,9 +42,9 @@ latest_writers (t ∷ ts) key u = by (written t.writes key) refl (latest_writers
     passed false o = refl
 
     by : (w : Option ℤ) → written t.writes key ≡ w → latest_write ts key u ≡ latest_write (writers key ts) key u
-        → option_or (cond (is_seen u t) w None) (latest_write ts key u) ≡ latest_write (cond (is_some w) (t ∷ writers key ts) (writers key ts)) key u
-    by None e h = passed (is_seen u t) (latest_write ts key u) ∙ h
-    by (Some x) e h = λ i. option_or (cond (is_seen u t) (sym e i) None) (h i)
+        → option_or (cond (has_number u t.origin t.seq) w None) (latest_write ts key u) ≡ latest_write (cond (is_some w) (t ∷ writers key ts) (writers key ts)) key u
+    by None e h = passed (has_number u t.origin t.seq) (latest_write ts key u) ∙ h
+    by (Some x) e h = λ i. option_or (cond (has_number u t.origin t.seq) (sym e i) None) (h i)
 
 latest_inside : (es : List Entry) (v u : List ℕ) (key : ℕ) → AtMost u v → latest_write (map past_of (filter (is_inside v) es)) key u ≡ newest es key u
 latest_inside [] v u key most = refl

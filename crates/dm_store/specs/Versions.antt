@@ -1,12 +1,11 @@
 -- The versions of all keys, of which the latest stands first.
-use Rattle.std.specs.Prelude.{ℕ, ℤ, ◌==◌, nat_le, ◌&&◌, Bool, if◌then◌else◌, List, [], ◌∷◌, Option, Some, None}
-use Rattle.dm_event.specs.Vectors.{at}
+use Rattle.std.specs.Prelude.{ℕ, ℤ, ◌==◌, ◌&&◌, Bool, if◌then◌else◌, List, [], ◌∷◌, Option, Some, None}
+use Rattle.dm_event.specs.Vectors.{has_number}
 use Rattle.dm_event.specs.declared.step.Pair.{Pair}
 use Rattle.dm_store.specs.declared.version.Version.{Version}
 
--- the version's number is at most the vector's component of its origin
 abbrev pub is_within : List ℕ → Version → Bool
-is_within v x = nat_le x.seq (at v x.origin)
+is_within v x = has_number v x.origin x.seq
 
 -- what the latest version of the key within the vector says
 abbrev pub latest_version : List Version → ℕ → List ℕ → Option ℤ
