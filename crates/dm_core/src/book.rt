@@ -1,7 +1,7 @@
 //! The history so far, as the plain list of its steps.
 
 ghost use Rattle.std.specs.List.{list_all};
-ghost use Rattle.std.specs.Prelude.{ℕ, ◌≡◌, ◌<◌, ◌≤◌, ◌↔◌, ◌++◌, ◌∷◌, [], true, false, None, Some, length, IfOk, IfSome, IsNone, OnOk, OnErr, MatchResult, option_copied, reverse, take};
+ghost use Rattle.std.specs.Prelude.{ℕ, ◌≡◌, ◌<◌, ◌≤◌, ◌^◌, ◌↔◌, ◌++◌, ◌∷◌, [], true, false, None, Some, length, IfOk, IfSome, IsNone, OnOk, OnErr, MatchResult, option_copied, reverse, take};
 ghost use Rattle.dm_event.specs.Layout.{is_key, is_site};
 ghost use Rattle.dm_core.specs.Ledger.{past};
 ghost use Rattle.dm_model.specs.Acts.{entry_at};
@@ -151,6 +151,7 @@ impl Book {
     pub fn entry_count(&self, origin: SiteNo) -> u64
         ensures exact { result ≡ entry_count origin (past self.now) }
         ensures few { result ≤ length self.now.steps }
+        ensures memory { result < 2 ^ 63 }
     {
         dm_plain::entry_count(&self.steps, origin)
     }

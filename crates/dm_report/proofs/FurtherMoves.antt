@@ -30,7 +30,8 @@ released_pending p site (Some (pending.Release part epoch to vector)) = by_test 
     by_test false = refl
 released_pending p site (Some (pending.Grant part epoch vector)) = refl
 
-released_found : (p site : ℕ) (vector : List ℕ) (found : Found) (past : List Step) → kept_release p site found (pending_at site past) ≡ latest (released_by p) (acts_of (Restart site vector found) past)
+released_found : (p site : ℕ) (vector : List ℕ) (found : Found) (past : List Step)
+    → kept_release p site found (pending_at site past) ≡ latest (released_by p) (acts_of (Restart site vector found) past)
 released_found p site vector Kept past = released_pending p site (pending_at site past)
 released_found p site vector Clean past = refl
 released_found p site vector Lost past = refl
@@ -42,7 +43,8 @@ release_kept p s past site vector found e = released_found p site vector found p
 
 -- ---- a Restart that keeps a grant
 
-moved_pending : (site : ℕ) (o : Option Pending) (before : List Step) → moves_by (option_to_list (option_map (step_of site) o) ++ before) ≡ cons_option (kept_move before site Kept o) (moves_by before)
+moved_pending : (site : ℕ) (o : Option Pending) (before : List Step) → moves_by (option_to_list (option_map (step_of site) o) ++ before) ≡ cons_option
+    (kept_move before site Kept o) (moves_by before)
 moved_pending site None before = refl
 moved_pending site (Some (pending.Commit e)) before = refl
 moved_pending site (Some (pending.Release part epoch to vector)) before = refl

@@ -19,7 +19,8 @@ lines_more f a n j e =
     ∙ ap (λ (l : List ℕ). flat_map f (range_with_len a n) ++ l) (append-nil (f j))
 
 -- the line of one site more
-pub sites_more : (layout : Layout) (past : List Step) (site : ℕ) → 1 ≤ site → sites_text layout past (site + 1 - 1) ≡ sites_text layout past (site - 1) ++ site_text layout past site
+pub sites_more : (layout : Layout) (past : List Step) (site : ℕ) → 1 ≤ site → sites_text layout past (site + 1 - 1) ≡ sites_text layout past (site - 1)
+    ++ site_text layout past site
 unfolding sites_text
 sites_more layout past site h =
     let e : site + 1 - 1 ≡ suc (site - 1) = omega (arith, h) in
@@ -39,13 +40,15 @@ begins_more old mid new text e b = record {
   whole = b.whole ∙ ap (λ (l : List ℕ). l ++ b.rest) e ∙ append_assoc old text b.rest;
 }
 
-pub sites_step : (layout : Layout) (past : List Step) (site : ℕ) (old mid new : List ℕ) → 1 ≤ site → mid ≡ old ++ sites_text layout past (site - 1) → new ≡ mid ++ site_text layout past site
+pub sites_step : (layout : Layout) (past : List Step) (site : ℕ) (old mid new : List ℕ) → 1 ≤ site → mid ≡ old ++ sites_text layout past (site - 1) → new ≡ mid
+    ++ site_text layout past site
     → new ≡ old ++ sites_text layout past (site + 1 - 1)
 sites_step layout past site old mid new h e f =
     f ∙ ap (λ (l : List ℕ). l ++ site_text layout past site) e ∙ append_assoc old (sites_text layout past (site - 1)) (site_text layout past site)
     ∙ ap (λ (l : List ℕ). old ++ l) (sym (sites_more layout past site h))
 
-pub parts_step : (layout : Layout) (past : List Step) (part : ℕ) (old mid new : List ℕ) → mid ≡ old ++ parts_text layout past part → new ≡ mid ++ part_text layout past part
+pub parts_step : (layout : Layout) (past : List Step) (part : ℕ) (old mid new : List ℕ) → mid ≡ old ++ parts_text layout past part → new ≡ mid
+    ++ part_text layout past part
     → new ≡ old ++ parts_text layout past (part + 1)
 parts_step layout past part old mid new e f =
     f ∙ ap (λ (l : List ℕ). l ++ part_text layout past part) e ∙ append_assoc old (parts_text layout past part) (part_text layout past part)

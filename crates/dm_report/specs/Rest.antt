@@ -21,7 +21,8 @@ use Rattle.dm_text.specs.Texts.{vector_text}
 -- `move 2 epoch 1 from 1 to 3`
 unfoldable pub move_text : Move → List ℕ
 move_text m =
-    codes "move " ++ (decimal m.part ++ (codes " epoch " ++ (decimal m.epoch ++ (codes " from " ++ (decimal m.from ++ (codes " to " ++ (decimal m.to ++ codes "\n")))))))
+    codes "move " ++ (decimal m.part ++ (codes " epoch "
+    ++ (decimal m.epoch ++ (codes " from " ++ (decimal m.from ++ (codes " to " ++ (decimal m.to ++ codes "\n")))))))
 
 -- `moves 2`, and a line for each
 unfoldable pub moves_text : List Move → List ℕ
@@ -61,7 +62,8 @@ parts_text layout past n = flat_map (part_text layout past) (range_with_len 0 n)
 unfoldable pub totals_text : Totals → List ℕ
 totals_text t =
     (codes "total committed " ++ (decimal t.committed ++ (codes " read " ++ (decimal t.read ++ (codes " placed " ++ decimal t.placed)))))
-    ++ (codes " restarted " ++ (decimal t.restarted ++ (codes " in doubt " ++ (decimal t.in_doubt ++ (codes " refused " ++ (decimal t.refused ++ codes "\n"))))))
+    ++ (codes " restarted " ++ (decimal t.restarted ++ (codes " in doubt "
+    ++ (decimal t.in_doubt ++ (codes " refused " ++ (decimal t.refused ++ codes "\n"))))))
 
 -- `steps 4`, and the line of each
 unfoldable pub steps_text : List Step → List ℕ

@@ -29,7 +29,8 @@ module _ (p : ℕ → Bool) where
 
   with_key_pass : (key : ℕ) (xs : List ℕ) → p key ≡ true → list_all p xs ≡ true → PassAll (with_key key xs)
   with_key_pass key [] pk all = rw pk refl
-  with_key_pass key (x ∷ xs) pk all = let h = both (p x) (list_all p xs) all in placed (nat_lt x key) (x == key) key x xs pk h.0 h.1 (with_key_pass key xs pk h.1)
+  with_key_pass key (x ∷ xs) pk all = let h = both (p x) (list_all p xs) all in
+      placed (nat_lt x key) (x == key) key x xs pk h.0 h.1 (with_key_pass key xs pk h.1)
 
   next_pass : (key : ℕ) (o : Option (List ℕ)) → p key ≡ true → PassAll o → PassAll (option_and_then (with_key key) o)
   next_pass key None pk h = h
@@ -39,10 +40,12 @@ module _ (p : ℕ → Bool) where
   ascending_pass [] all = refl
   ascending_pass (key ∷ keys) all = let h = both (p key) (list_all p keys) all in next_pass key (ascending keys) h.0 (ascending_pass keys h.1)
 
-all_below : {E : Type 0} (layout : Layout) (o : Option (List ℕ)) (e : E) → PassAll (λ k. is_key layout k) o → IfOk (ok_or o e) (λ keys. All (λ k. k < key_count layout) keys)
+all_below : {E : Type 0} (layout : Layout) (o : Option (List ℕ)) (e : E) → PassAll (λ k. is_key layout k) o
+    → IfOk (ok_or o e) (λ keys. All (λ k. k < key_count layout) keys)
 all_below layout None e pass = tt
 all_below layout (Some keys) e pass = λ i d lt. ltb-true _ _ (AllPass-from_list_all (λ k. is_key layout k) keys pass i d lt)
 
-pub ascending_below : {E : Type 0} (layout : Layout) (keys : List ℕ) (e : E) → are_keys layout keys ≡ true → IfOk (ok_or (ascending keys) e) (λ sorted. All (λ k. k < key_count layout) sorted)
+pub ascending_below : {E : Type 0} (layout : Layout) (keys : List ℕ) (e : E) → are_keys layout keys ≡ true
+    → IfOk (ok_or (ascending keys) e) (λ sorted. All (λ k. k < key_count layout) sorted)
 unfolding are_keys
 ascending_below layout keys e are = all_below layout (ascending keys) e (ascending_pass (λ k. is_key layout k) keys are)

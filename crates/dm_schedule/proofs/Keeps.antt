@@ -2,6 +2,7 @@
 use Rattle.std.proofs.Common.{◌≡◌, ℕ, ◌+◌, ◌-◌, ◌≤◌, Bool, true, false, cond, List, [], ◌∷◌, length, refl, arith, length-append, Option, Some, None}
 use Rattle.std.proofs.Math.ListN.{length-set}
 use Rattle.std.specs.Prelude.{◌==◌}
+use Rattle.dm_event.specs.declared.limits.TheConstants.{MAX_OPS}
 use Rattle.dm_event.specs.declared.step.Choice.{Choice}
 use Rattle.dm_event.specs.declared.step.Choice.TheVariants.{Hand}
 use Rattle.dm_event.specs.declared.step.Op.{Op}
@@ -11,7 +12,8 @@ use Rattle.dm_event.specs.declared.step.TxnId.{TxnId}
 use Rattle.dm_event.specs.declared.step.Want.{Want}
 use Rattle.dm_event.specs.declared.why.Why.{Why}
 use Rattle.dm_model.specs.Bodies.{has_writes}
-use Rattle.dm_schedule.specs.Drive.{Drive, extended, with_ops, judged, ops_of, is_declared, routed_of, running_of, outcome_due, next_txn, route_line, begin_line, get_line, write_line, commit_line, reply_line, refresh_line, by_line}
+use Rattle.dm_schedule.specs.Drive.{Drive, extended, with_ops, judged, ops_of, is_declared, routed_of, running_of, outcome_due, next_txn, route_line}
+use Rattle.dm_schedule.specs.Drive.{begin_line, get_line, write_line, commit_line, reply_line, refresh_line, by_line}
 use Rattle.dm_schedule.specs.declared.answer.Answer.{Answer}
 use Rattle.dm_schedule.specs.declared.driving.Run.{Run}
 use Rattle.dm_schedule.specs.declared.line.Line.{Line}
@@ -51,11 +53,11 @@ by_begin d c (Some at) = by_why _ d _ _ (begun d _ c)
 
 by_get : (d : Drive) (c key : ℕ) (run : Option Run) → Keeps d (get_line d c key run).0
 by_get d c key None = same d
-by_get d c key (Some run) = chosen (length (ops_of d c) == 64) d _ _ (same d) (set d c _)
+by_get d c key (Some run) = chosen (length (ops_of d c) == MAX_OPS) d _ _ (same d) (set d c _)
 
 by_write : (d : Drive) (c key : ℕ) (op : Op) (answer : Answer) (run : Option Run) → Keeps d (write_line d c key op answer run).0
 by_write d c key op answer None = same d
-by_write d c key op answer (Some run) = chosen (length (ops_of d c) == 64) d _ _ (same d) (chosen (is_declared d run.txn key) d _ _ (set d c _) (same d))
+by_write d c key op answer (Some run) = chosen (length (ops_of d c) == MAX_OPS) d _ _ (same d) (chosen (is_declared d run.txn key) d _ _ (set d c _) (same d))
 
 by_commit : (d : Drive) (c : ℕ) (run : Option Run) → Keeps d (commit_line d c run).0
 by_commit d c None = same d

@@ -22,7 +22,8 @@ read_at s n i lines d lt =
 pub read_more : (s t : SoFar) (n i : ℕ) (lines : List (Bor (List ℕ))) (d : Bor (List ℕ)) (all : Result Told Faulty) → i < length lines
     → after_line s (get_or lines i d).now ≡ Ok t → read_from s n (shown (drop i lines)) ≡ all → read_from t (n + 1) (shown (drop (i + 1) lines)) ≡ all
 read_more s t n i lines d all lt step before =
-    sym (read_at s n i lines d lt ∙ ap (λ (r : Result SoFar LineFault). unless_faulty n r (λ u. read_from u (n + 1) (shown (drop (i + 1) lines)))) step) ∙ before
+    sym (read_at s n i lines d lt ∙ ap (λ (r : Result SoFar LineFault). unless_faulty n r (λ u. read_from u (n + 1) (shown (drop (i + 1) lines)))) step)
+    ∙ before
 
 -- the line at i is faulty
 pub read_stops : (e : LineError) (s : SoFar) (n i : ℕ) (lines : List (Bor (List ℕ))) (d : Bor (List ℕ)) (all : Result Told Faulty) → i < length lines

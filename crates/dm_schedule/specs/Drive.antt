@@ -1,9 +1,11 @@
 -- The drive of a history by the command lines of a step file.
-use Rattle.std.specs.Prelude.{ℕ, ◌+◌, ◌-◌, ◌==◌, Bool, if◌then◌else◌, List, [], ◌∷◌, ◌++◌, length, replicate, reverse, slice_index_or, slice_set, Option, Some, None, option_map, ℤ}
+use Rattle.std.specs.Prelude.{ℕ, ◌+◌, ◌-◌, ◌==◌, Bool, if◌then◌else◌, List, [], ◌∷◌, ◌++◌, length, replicate, reverse, slice_index_or, slice_set, Option, Some}
+use Rattle.std.specs.Prelude.{None, option_map, ℤ}
 use Rattle.dm_event.specs.Entries.{commit_vector}
 use Rattle.dm_event.specs.Layout.{Layout}
 use Rattle.dm_event.specs.declared.attempt.AttemptState.{AttemptState}
 use Rattle.dm_event.specs.declared.attempt.AttemptState.TheVariants as stands
+use Rattle.dm_event.specs.declared.limits.TheConstants.{MAX_OPS, MAX_SESSIONS}
 use Rattle.dm_event.specs.declared.step.Choice.{Choice}
 use Rattle.dm_event.specs.declared.step.Choice.TheVariants.{Hand}
 use Rattle.dm_event.specs.declared.step.Entry.{Entry}
@@ -41,7 +43,7 @@ pub record Drive : Type 0 where
 
 -- nothing has happened
 abbrev pub start : Layout → Drive
-start layout = record { layout = layout; history = []; ops = replicate 32 [] }
+start layout = record { layout = layout; history = []; ops = replicate MAX_SESSIONS [] }
 
 -- the steps so far, the latest first
 abbrev pub past : Drive → List Step
@@ -150,14 +152,14 @@ begin_line d c (Some at) =
 abbrev pub get_line : Drive → ℕ → ℕ → Option Run → Drive × Answer
 get_line d c key None = (d, answers.Refused why.NotRunning)
 get_line d c key (Some run) =
-    if length (ops_of d c) == 64 then (d, answers.RefusedOps)
+    if length (ops_of d c) == MAX_OPS then (d, answers.RefusedOps)
     else (with_ops d c (ops_of d c ++ ops.Read key ∷ []), answers.Value (value_due d c run key))
 
 -- a write or an addition
 abbrev pub write_line : Drive → ℕ → ℕ → Op → Answer → Option Run → Drive × Answer
 write_line d c key op answer None = (d, answers.Refused why.NotRunning)
 write_line d c key op answer (Some run) =
-    if length (ops_of d c) == 64 then (d, answers.RefusedOps)
+    if length (ops_of d c) == MAX_OPS then (d, answers.RefusedOps)
     else (if is_declared d run.txn key then (with_ops d c (ops_of d c ++ op ∷ []), answer)
     else (d, answers.Refused (why.Undeclared key)))
 

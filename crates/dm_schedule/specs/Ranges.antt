@@ -2,6 +2,7 @@
 use Rattle.std.specs.Prelude.{ℕ, ◌<◌, ◌≤◌, List, length, Bool, Option, Some, None, All}
 use Rattle.std.specs.List.{list_all}
 use Rattle.dm_event.specs.Layout.{Layout, key_count, is_key}
+use Rattle.dm_event.specs.declared.limits.TheConstants.{MAX_SESSIONS}
 use Rattle.dm_event.specs.declared.step.Want.{Want}
 use Rattle.dm_event.specs.declared.step.Want.TheVariants.{Txn, Place, Restart}
 use Rattle.dm_schedule.specs.declared.line.Line.{Line}
@@ -13,15 +14,15 @@ are_keys layout keys = list_all (λ k. is_key layout k) keys
 -- The same as facts, for the callers of the reader.
 
 abbrev pub IsSession : ℕ → Type 0
-IsSession c = (1 ≤ c) × (c ≤ 32)
+IsSession session = (1 ≤ session) × (session ≤ MAX_SESSIONS)
 
 abbrev pub IsSite : Layout → ℕ → Type 0
-IsSite layout i = (1 ≤ i) × (i ≤ layout.sites)
+IsSite layout site = (1 ≤ site) × (site ≤ layout.sites)
 
 -- so far each Route names its site
 abbrev pub FitsSite : Layout → Option ℕ → Type 0
 FitsSite layout None = ⊥
-FitsSite layout (Some i) = IsSite layout i
+FitsSite layout (Some site) = IsSite layout site
 
 abbrev pub FitsWant : Layout → Want → Type 0
 FitsWant layout (Txn keys) = All (λ k. k < key_count layout) keys

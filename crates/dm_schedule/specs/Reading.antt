@@ -1,9 +1,11 @@
 -- How a line of a step file is read: by its words, for what it says or its first fault. The faults come in the order word,
 -- count, number, range, repeat.
-use Rattle.std.specs.Prelude.{ℕ, ℤ, ◌+◌, ◌-◌, ◌^◌, List, [], length, drop, Option, Some, None, Result, Ok, Err, Bool, true, ◌==◌, ◌&&◌, ◌||◌, nat_le, codes, if◌then◌else◌}
+use Rattle.std.specs.Prelude.{ℕ, ℤ, ◌+◌, ◌-◌, ◌^◌, List, [], length, drop, Option, Some, None, Result, Ok, Err, Bool, true, ◌==◌, ◌&&◌, ◌||◌, nat_le, codes}
+use Rattle.std.specs.Prelude.{if◌then◌else◌}
 use Rattle.std.specs.Str.{bytes_eq}
 use Rattle.dm_event.specs.Ascending.{ascending}
-use Rattle.dm_event.specs.Layout.{Layout, within_limits, is_between, is_site, is_key}
+use Rattle.dm_event.specs.Layout.{Layout, within_limits, is_between, is_site, is_key, is_session}
+use Rattle.dm_event.specs.declared.limits.TheConstants.{MAX_KEYS}
 use Rattle.dm_event.specs.declared.schema.Weights.{Weights}
 use Rattle.dm_event.specs.declared.step.Want.TheVariants as want
 use Rattle.dm_event.specs.declared.why.LineFault.{LineFault}
@@ -54,7 +56,7 @@ declared_of layout keys = do
 
 -- four words, or 1 to 32 keys behind the word `keys`
 unfoldable pub route_count : Words → Result (Unit {0}) LineFault
-route_count ws = check Count ((length ws == 4) || is_between (5 + 1) (5 + 32) (length ws))
+route_count ws = check Count ((length ws == 4) || is_between (5 + 1) (5 + MAX_KEYS) (length ws))
 
 -- `route S at I keys K ..`, or `route S at I` where no key is declared
 unfoldable pub route_of : Layout → Words → Result Line LineFault
@@ -65,7 +67,7 @@ route_of layout ws = do
   session ← u32_at ws 1
   site ← u8_at ws 3
   keys ← numbers_from [] (2 ^ 32 - 1) (drop 5 ws)
-  range ← check Range (is_between 1 32 session)
+  range ← check Range (is_session session)
   range ← check Range (is_site layout site)
   declared ← declared_of layout keys
   Ok (line.Route session (want.Txn declared) (Some site))
@@ -75,7 +77,7 @@ unfoldable pub session_of : Words → Result ℕ LineFault
 session_of ws = do
   count ← word_count ws 2 2
   session ← u32_at ws 1
-  range ← check Range (is_between 1 32 session)
+  range ← check Range (is_session session)
   Ok session
 
 -- `get S K`
@@ -84,7 +86,7 @@ get_of layout ws = do
   count ← word_count ws 3 3
   session ← u32_at ws 1
   key ← u32_at ws 2
-  range ← check Range (is_between 1 32 session)
+  range ← check Range (is_session session)
   range ← check Range (is_key layout key)
   Ok (line.Get session key)
 
@@ -95,7 +97,7 @@ write_of layout ws = do
   session ← u32_at ws 1
   key ← u32_at ws 2
   number ← i64_at ws 3
-  range ← check Range (is_between 1 32 session)
+  range ← check Range (is_session session)
   range ← check Range (is_key layout key)
   Ok (session, key, number)
 

@@ -2,7 +2,7 @@
 
 ghost use Rattle.std.specs.Prelude.{◌≡◌, ◌==◌, ◌<◌, ◌≤◌, ◌++◌, ◌∷◌, [], length, OnOk};
 
-use dm_event::{NoMemory, Op};
+use dm_event::{MAX_OPS, NoMemory, Op};
 use std::alloc::Global;
 use std::marker::Model;
 
@@ -14,13 +14,14 @@ pub(crate) struct Done {
 
 impl Model for Done {
     ghost use Rattle.std.specs.Prelude.{◌≤◌, List, vec_len};
+    ghost use Rattle.dm_event.specs.declared.limits.TheConstants.{MAX_OPS};
     ghost use Rattle.dm_event.specs.declared.step.Op.{Op};
 
     ghost Value = { List Op };
 
     ghost view = { λ d. d.ops.items };
 
-    ghost invariant = { λ d. vec_len d.ops ≤ 64 };
+    ghost invariant = { λ d. vec_len d.ops ≤ MAX_OPS };
 }
 
 impl Done {
@@ -34,21 +35,21 @@ impl Done {
 
     pub(crate) fn as_slice(&self) -> &[Op]
         ensures same { result.now ≡ self.now }
-        ensures few { length result.now ≤ 64 }
+        ensures few { length result.now ≤ MAX_OPS }
     {
         self.ops.as_slice()
     }
 
     /// Whether there are 64 ops.
     pub(crate) fn is_full(&self) -> bool
-        ensures full { result ≡ (length self.now == 64) }
-        ensures few { length self.now ≤ 64 }
+        ensures full { result ≡ (length self.now == MAX_OPS) }
+        ensures few { length self.now ≤ MAX_OPS }
     {
-        self.ops.len() == 64
+        self.ops.len() == MAX_OPS
     }
 
     pub(crate) fn push(&mut self, op: Op) -> Result<(), NoMemory>
-        requires { length self.old < 64 }
+        requires { length self.old < MAX_OPS }
         ensures { OnOk result (self.new ≡ self.old ++ op ∷ []) }
     {
         self.ops.push(op)?;

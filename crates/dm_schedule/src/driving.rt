@@ -12,13 +12,13 @@ use crate::done::Done;
 use crate::file::Schedule;
 use crate::line::Line;
 use crate::replay::{read_after, replay};
+use crate::view::At;
 use dm_body::{Ran, has_writes};
 use dm_core::Book;
 use dm_event::{
-    Attempt, AttemptState, Choice, Entry, Key, NoMemory, Op, Said, Schema, SiteNo, Step, TxnId,
-    Value, Vector, Want, Why,
+    Attempt, AttemptState, Choice, Entry, Key, MAX_OPS, MAX_SESSIONS, NoMemory, Op, Said, Schema,
+    SiteNo, Step, TxnId, Value, Vector, Want, Why,
 };
-use dm_plain::{Reading, begin_vector, declared, entry_count, replies, routes};
 use std::alloc::Global;
 
 /// An attempt that runs.
@@ -52,11 +52,11 @@ impl Driver {
         ensures { IfOk result (λ d. seen d ≡ start schema.now) }
     {
         let mut ops = Vec::new(alloc);
-        for _session in 0..32u32 {
+        for _session in 0..MAX_SESSIONS {
             ops.push(Done::new(alloc))?;
         }
         Ok(Driver {
-            book: Book::new(alloc, schema, &[0; 32])?,
+            book: Book::new(alloc, schema, &[0; MAX_SESSIONS as usize])?,
             ops,
         })
     }
@@ -84,11 +84,10 @@ impl Driver {
         requires { length self.now.book.steps < 2 ^ 32 - 1 }
         ensures { result ≡ next_txn (seen self.now) session }
     {
-        let steps = self.book.steps();
         TxnId {
             session,
-            number: (replies(steps, session) + 1) as u32,
-            attempt: routes(steps, session) + 1,
+            number: (self.book.replies(session) + 1) as u32,
+            attempt: self.book.routes(session) + 1,
         }
     }
 
@@ -123,7 +122,7 @@ impl Driver {
         let attempt = self.book.attempt(session);
         match (attempt.txn, attempt.state) {
             (Some(txn), AttemptState::Running { site }) => {
-                let begin = begin_vector(self.book.steps(), txn)?;
+                let begin = self.book.begin_vector(txn)?;
                 Some(Run { txn, site, begin })
             }
             _ => None,
@@ -134,47 +133,42 @@ impl Driver {
     fn is_declared(&self, txn: TxnId, key: Key) -> bool
         ensures { result ≡ is_declared (seen self.now) txn key }
     {
-        declared(self.book.steps(), txn)
-            .iter()
-            .any(|declared| *declared == key)
+        self.book.declared(txn).contains(&key)
     }
 
     /// What a read of the key gives after the ops so far.
     #[tactic(auto, unfolding(crate::specs::Drive::value_due))]
     fn value_due(&self, alloc: Global, session: u32, run: &Run, key: Key) -> Result<Value, NoMemory>
         requires session { IsSession session }
-        requires ops { vec_len self.now.ops ≡ 32 }
-        requires room { length (ops_of (seen self.now) session) < 64 }
+        requires ops { vec_len self.now.ops ≡ MAX_SESSIONS }
+        requires room { length (ops_of (seen self.now) session) < MAX_OPS }
         ensures { IfOk result (λ value. value ≡ value_due (seen self.now) session run.now key) }
     {
-        let mut reading = Reading {
-            schema: self.book.schema(),
-            steps: self.book.steps(),
-            at: &run.begin,
+        let mut view = At {
+            book: &self.book,
+            vector: run.begin,
         };
         let done = self.ops[session as usize - 1].as_slice();
-        read_after(alloc, done, key, &mut reading)
+        read_after(alloc, done, key, &mut view)
     }
 
     /// The entry of the ops so far.
     #[tactic(auto, unfolding(crate::specs::Drive::entry_due))]
     fn entry_due(&self, alloc: Global, session: u32, run: &Run) -> Result<Entry, NoMemory>
         requires session { IsSession session }
-        requires ops { vec_len self.now.ops ≡ 32 }
+        requires ops { vec_len self.now.ops ≡ MAX_SESSIONS }
         ensures { IfOk result (λ entry. entry ≡ entry_due (seen self.now) session run.now) }
     {
-        let steps = self.book.steps();
-        let mut reading = Reading {
-            schema: self.book.schema(),
-            steps,
-            at: &run.begin,
+        let mut view = At {
+            book: &self.book,
+            vector: run.begin,
         };
         let done = self.ops[session as usize - 1].as_slice();
-        let Ran { ops, reads, writes } = replay(alloc, done, &mut reading)?.into_ran();
+        let Ran { ops, reads, writes } = replay(alloc, done, &mut view)?.into_ran();
         Ok(Entry {
             txn: run.txn,
             origin: run.site,
-            seq: entry_count(steps, run.site) + 1,
+            seq: self.book.entry_count(run.site) + 1,
             begin: run.begin,
             ops,
             reads,
@@ -186,16 +180,15 @@ impl Driver {
     #[tactic(auto, unfolding(crate::specs::Drive::end_due))]
     fn end_due(&self, alloc: Global, session: u32, run: &Run) -> Result<Step, NoMemory>
         requires session { IsSession session }
-        requires ops { vec_len self.now.ops ≡ 32 }
+        requires ops { vec_len self.now.ops ≡ MAX_SESSIONS }
         ensures { IfOk result (λ step. step ≡ end_due (seen self.now) session run.now) }
     {
-        let mut reading = Reading {
-            schema: self.book.schema(),
-            steps: self.book.steps(),
-            at: &run.begin,
+        let mut view = At {
+            book: &self.book,
+            vector: run.begin,
         };
         let done = self.ops[session as usize - 1].as_slice();
-        let Ran { ops, reads, .. } = replay(alloc, done, &mut reading)?.into_ran();
+        let Ran { ops, reads, .. } = replay(alloc, done, &mut view)?.into_ran();
         Ok(Step::End {
             site: run.site,
             txn: run.txn,
@@ -232,7 +225,7 @@ impl Driver {
 
     fn begin(&mut self, session: u32) -> Result<Answer, NoMemory>
         requires session { IsSession session }
-        requires ops { vec_len self.old.ops ≡ 32 }
+        requires ops { vec_len self.old.ops ≡ MAX_SESSIONS }
         ensures { IfOk result (λ a. (seen self.new, a) ≡ begin_line (seen self.old) session (routed_of (seen self.old) session)) }
     {
         match self.routed(session) {
@@ -252,7 +245,7 @@ impl Driver {
 
     fn get(&mut self, alloc: Global, session: u32, key: Key) -> Result<Answer, NoMemory>
         requires session { IsSession session }
-        requires ops { vec_len self.old.ops ≡ 32 }
+        requires ops { vec_len self.old.ops ≡ MAX_SESSIONS }
         ensures { IfOk result (λ a. (seen self.new, a) ≡ get_line (seen self.old) session key (running_of (seen self.old) session)) }
     {
         match self.running(session) {
@@ -272,7 +265,7 @@ impl Driver {
     /// A write or an addition, which is answered so.
     fn write(&mut self, session: u32, key: Key, op: Op, answer: Answer) -> Result<Answer, NoMemory>
         requires session { IsSession session }
-        requires ops { vec_len self.old.ops ≡ 32 }
+        requires ops { vec_len self.old.ops ≡ MAX_SESSIONS }
         ensures { IfOk result (λ a. (seen self.new, a) ≡ write_line (seen self.old) session key op answer (running_of (seen self.old) session)) }
     {
         match self.running(session) {
@@ -317,7 +310,7 @@ impl Driver {
 
     fn commit(&mut self, alloc: Global, session: u32) -> Result<Answer, NoMemory>
         requires session { IsSession session }
-        requires ops { vec_len self.old.ops ≡ 32 }
+        requires ops { vec_len self.old.ops ≡ MAX_SESSIONS }
         ensures { IfOk result (λ a. (seen self.new, a) ≡ commit_line (seen self.old) session (running_of (seen self.old) session)) }
     {
         match self.running(session) {
@@ -372,7 +365,7 @@ impl Driver {
     #[tactic(auto, unfolding(crate::specs::Drive::by_line))]
     fn take(&mut self, alloc: Global, line: &Line) -> Result<Answer, NoMemory>
         requires line { Fits self.old.book.layout line.now }
-        requires ops { vec_len self.old.ops ≡ 32 }
+        requires ops { vec_len self.old.ops ≡ MAX_SESSIONS }
         requires steps { length self.old.book.steps < 2 ^ 32 - 1 }
         ensures { IfOk result (λ a. (seen self.new, a) ≡ by_line (seen self.old) line.now) }
     {
@@ -414,7 +407,7 @@ impl Driver {
     #[tactic(auto, using(crate::proofs::Begins::begins_same), unfolding(crate::specs::Drive::answer_of, crate::specs::Answers::answer_text))]
     fn answer(&mut self, alloc: Global, line: &Line, out: &mut Vec<u8>) -> Result<(), NoMemory>
         requires line { Fits self.old.book.layout line.now }
-        requires ops { vec_len self.old.ops ≡ 32 }
+        requires ops { vec_len self.old.ops ≡ MAX_SESSIONS }
         requires steps { length self.old.book.steps < 2 ^ 32 - 1 }
         ensures does { OnOk result (seen self.new ≡ (by_line (seen self.old) line.now).0) }
         ensures answers { Appends result out.old.items out.new.items (answer_of (by_line (seen self.old) line.now)) }

@@ -10,6 +10,7 @@ mod file;
 mod line;
 mod reading;
 mod replay;
+mod view;
 
 pub use driving::drive;
 pub use file::{Schedule, read};

@@ -8,7 +8,7 @@ ghost use Rattle.dm_schedule.specs.Reading.{header_words, header_count, header_o
 
 use crate::fault::LineError;
 use crate::fields::{
-    word_count, fixed_word, i64_at, is, keys_of, require, sites_of, u8_at, u16_at, u32_at, word,
+    fixed_word, i64_at, is, keys_of, require, sites_of, u8_at, u16_at, u32_at, word, word_count,
 };
 use crate::line::Line;
 use dm_event::{Key, Keys, LineFault, MAX_KEYS, Schema, Value, Want, Weights};

@@ -12,7 +12,8 @@ use Rattle.dm_placement.specs.Tells.{AreSetsOf}
 use Rattle.dm_core.proofs.noting.note.Goals as goal
 
 -- a Route with a key declares the partitions of its keys
-declares : (layout : Layout) (s : Step) (txn : TxnId) (want : Want) (min : List ℕ) (site : ℕ) (choice : Choice) (keys : List ℕ) → s ≡ Route txn want min site choice → want ≡ Txn keys → (length keys == 0) ≡ false
+declares : (layout : Layout) (s : Step) (txn : TxnId) (want : Want) (min : List ℕ) (site : ℕ) (choice : Choice) (keys : List ℕ)
+    → s ≡ Route txn want min site choice → want ≡ Txn keys → (length keys == 0) ≡ false
     → declared_parts layout s ≡ Some (parts_of layout keys)
 declares layout s txn want min site choice [] e f some = absurd (true≢false some)
 declares layout s txn want min site choice (key ∷ keys) e f some =
@@ -22,7 +23,8 @@ pub returns-in-Txn : goal.returns-in-Txn
 returns-in-Txn c = λ past told.
     let layout = c.args.schema.now in
     let r = c.in-Route in
-    let some : (length c.in-Txn.keys == 0) ≡ false = ap (λ (l : List ℕ). length l == 0) (sym c.as_slice.ensures.same) ∙ sym c.is_empty.ensures ∙ c.if-not-is_empty.true in
+    let some : (length c.in-Txn.keys == 0) ≡ false = ap (λ (l : List ℕ). length l == 0) (sym c.as_slice.ensures.same) ∙ sym c.is_empty.ensures
+    ∙ c.if-not-is_empty.true in
     let held = c.choices_due.ensures.listed layout c.in-Txn.keys c.parts_of.result
     (λ p. c.parts_of.ensures.members p ∙ ap (λ (l : List ℕ). is_among (parts_in_order layout l) p) c.as_slice-in-Txn.ensures.same) in
     subst (λ (w : List (List ℕ)). AreSetsOf w (window_of layout (c.args.step.now ∷ past))) (sym c.note.ensures)

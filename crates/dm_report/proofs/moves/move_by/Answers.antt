@@ -19,5 +19,6 @@ pub returns-in-Restart : goal.returns-in-Restart
 returns-in-Restart c =
     let past = reverse (take c.args.place c.args.book.now.steps) in
     move_kept c.args.step.now past c.in-Restart.site c.in-Restart.vector c.in-Restart.found c.in-Restart.is
-    ∙ ap (λ (o : Option Pending). cons_option (kept_move (acts past) c.in-Restart.site c.in-Restart.found o) (moves_by (acts past))) (sym c.pending_before-pending.ensures)
+    ∙ ap (λ (o : Option Pending). cons_option (kept_move (acts past) c.in-Restart.site c.in-Restart.found o) (moves_by (acts past)))
+    (sym c.pending_before-pending.ensures)
     ∙ ap (λ (o : Option Move). cons_option o (moves_by (acts past))) (sym c.kept_move.ensures)

@@ -33,13 +33,15 @@ loop-line-preserved c =
     let before = c.loop-line.invariant in
     let lt = rw c.deref-line-items.ensures.value at c.loop-line-test.true in
     let at = rw c.deref-line-items.ensures.value at c.line-item.is in
-    let keeps = subst (λ (d : Drive). Keeps (seen c.loop-line.driver) d) (sym c.in_ok-answer.ensures.does) (line_keeps (seen c.loop-line.driver) c.line-item.result) in
+    let keeps = subst (λ (d : Drive). Keeps (seen c.loop-line.driver) d) (sym c.in_ok-answer.ensures.does)
+    (line_keeps (seen c.loop-line.driver) c.line-item.result) in
     record {
       layout = keeps.layout ∙ before.layout;
       ops = omega (arith, keeps.ops, before.ops, c.answer.new.self.ops.ok.0, c.loop-line.driver.ops.ok.0);
       steps = omega (arith, keeps.steps, before.steps);
       history = history_more (seen c.loop-line.driver) (seen c.answer.new.self) _ _ c.line-item.result lt at c.in_ok-answer.ensures.does _ before.history;
-      answers = answers_more (seen c.loop-line.driver) (seen c.answer.new.self) _ _ c.line-item.result lt at c.in_ok-answer.ensures.does c.loop-line.out.items _ _ c.in_ok-answer.ensures.answers before.answers;
+      answers = answers_more (seen c.loop-line.driver) (seen c.answer.new.self) _ _ c.line-item.result lt at c.in_ok-answer.ensures.does c.loop-line.out.items _
+          _ c.in_ok-answer.ensures.answers before.answers;
       begins = begins_more _ _ _ _ c.in_ok-answer.ensures.answers before.begins;
     }
 

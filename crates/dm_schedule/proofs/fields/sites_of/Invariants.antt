@@ -3,4 +3,5 @@ use Rattle.dm_schedule.specs.Fields.{numbers_from}
 use Rattle.dm_schedule.proofs.fields.sites_of.Given as goal
 
 abbrev pub invariant-loop-word : goal.invariant-loop-word
-invariant-loop-word l = numbers_from l.sites.items (2 ^ 8 - 1) (map (λ w. w.now) (drop l.word-index l.words)) ≡ numbers_from [] (2 ^ 8 - 1) (map (λ w. w.now) l.words)
+invariant-loop-word l = numbers_from l.sites.items (2 ^ 8 - 1) (map (λ w. w.now) (drop l.word-index l.words)) ≡ numbers_from [] (2 ^ 8 - 1)
+    (map (λ w. w.now) l.words)

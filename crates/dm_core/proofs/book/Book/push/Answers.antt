@@ -12,5 +12,6 @@ invariant_of-self c =
     record {
       legal = longer_legal layout before c.push_reserved.new.self.items c.args.step c.push_reserved.ensures.items c.self.invariant.legal
           (subst (λ (book : Ledger). Allowed book.layout (past book) c.args.step) (sym c.self.view_is) c.requires.allowed);
-      window = longer_window layout before c.push_reserved.new.self.items c.args.step c.push_reserved.ensures.items c.note.new.window (c.note.ensures (reverse before) c.self.invariant.window);
+      window = longer_window layout before c.push_reserved.new.self.items c.args.step c.push_reserved.ensures.items c.note.new.window
+          (c.note.ensures (reverse before) c.self.invariant.window);
     }

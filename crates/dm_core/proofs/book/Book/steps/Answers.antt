@@ -4,13 +4,17 @@ use Rattle.dm_core.proofs.Kept.{kept_snapshot, kept_order, kept_sessions, kept_m
 use Rattle.dm_core.proofs.book.Book.steps.Goals as goal
 
 pub returns-clause-snapshot : goal.returns-clause-snapshot
-returns-clause-snapshot c = kept_snapshot c.self.inside.schema c.args.self.now.layout c.self.inside.steps.items c.deref.result.now c.self.invariant.legal (ap (λ (b : Ledger). b.layout) c.self.view_is) c.deref.ensures.value
+returns-clause-snapshot c = kept_snapshot c.self.inside.schema c.args.self.now.layout c.self.inside.steps.items c.deref.result.now c.self.invariant.legal
+    (ap (λ (b : Ledger). b.layout) c.self.view_is) c.deref.ensures.value
 
 pub returns-clause-ordered : goal.returns-clause-ordered
-returns-clause-ordered c = kept_order c.self.inside.schema c.args.self.now.layout c.self.inside.steps.items c.deref.result.now c.self.invariant.legal (ap (λ (b : Ledger). b.layout) c.self.view_is) c.deref.ensures.value
+returns-clause-ordered c = kept_order c.self.inside.schema c.args.self.now.layout c.self.inside.steps.items c.deref.result.now c.self.invariant.legal
+    (ap (λ (b : Ledger). b.layout) c.self.view_is) c.deref.ensures.value
 
 pub returns-clause-session_up : goal.returns-clause-session_up
-returns-clause-session_up c = kept_sessions c.self.inside.schema c.args.self.now.layout c.self.inside.steps.items c.deref.result.now c.self.invariant.legal (ap (λ (b : Ledger). b.layout) c.self.view_is) c.deref.ensures.value
+returns-clause-session_up c = kept_sessions c.self.inside.schema c.args.self.now.layout c.self.inside.steps.items c.deref.result.now c.self.invariant.legal
+    (ap (λ (b : Ledger). b.layout) c.self.view_is) c.deref.ensures.value
 
 pub returns-clause-one_master : goal.returns-clause-one_master
-returns-clause-one_master c = kept_masters c.self.inside.schema c.args.self.now.layout c.self.inside.steps.items c.deref.result.now c.self.invariant.legal (ap (λ (b : Ledger). b.layout) c.self.view_is) c.deref.ensures.value
+returns-clause-one_master c = kept_masters c.self.inside.schema c.args.self.now.layout c.self.inside.steps.items c.deref.result.now c.self.invariant.legal
+    (ap (λ (b : Ledger). b.layout) c.self.view_is) c.deref.ensures.value
