@@ -40,6 +40,11 @@ faults_fetching count fetched.Absent = count
 faults_fetching count fetched.TooLong = count
 faults_fetching count fetched.NoMemory = count
 
+-- all that is known of a fetch at the host: its count of faults, and that the limit was kept
+pub record HostFinds (old new : ℕ) (limit : ℕ) (answer : Fetched) : Type 0 where
+  pub count : new ≡ faults_fetching old answer
+  pub fits : FitsLimit limit answer
+
 -- files as pairs of a name and a content
 abbrev pub contents_of : List (String Global × Vec ℕ) → List (List ℕ × List ℕ)
 contents_of files = map (λ file. (string_bytes file.0, file.1.items)) files

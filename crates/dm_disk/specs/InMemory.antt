@@ -1,10 +1,11 @@
 -- A source and a sink in memory.
-use Rattle.std.specs.Prelude.{ℕ, ◌-◌, ◌==◌, List, ◌++◌, length, take, min, if◌then◌else◌, ◌&&◌, not}
+use Rattle.std.specs.Prelude.{◌≡◌, ◌↔◌, Contains, ℕ, ◌-◌, ◌==◌, List, ◌++◌, length, take, min, if◌then◌else◌, ◌&&◌, not}
 use Rattle.dm_disk.specs.declared.outside.Fetched.{Fetched}
+use Rattle.dm_disk.specs.declared.outside.Fetched.TheVariants as fetched
 use Rattle.dm_disk.specs.declared.outside.Put.{Put}
 use Rattle.dm_disk.specs.declared.outside.Put.TheVariants.{Took, Failed}
 use Rattle.dm_disk.specs.Faults.{raised}
-use Rattle.dm_disk.specs.Fetching.{faults_fetching}
+use Rattle.dm_disk.specs.Fetching.{FetchesFrom, FitsLimit, find_file, faults_fetching}
 
 -- files by name and content, the numbers of the fetches that fail, and the counts of fetches and faults
 pub record SourceState : Type 0 where
@@ -16,6 +17,13 @@ pub record SourceState : Type 0 where
 -- the source after a fetch
 abbrev pub after_fetch : SourceState → Fetched → SourceState
 after_fetch source answer = record source { calls = raised source.calls; faults = faults_fetching source.faults answer }
+
+-- what a fetch answers: it fails exactly where its number is among those that fail, and else looks the name up
+pub record MemFinds (old new : SourceState) (name : List ℕ) (limit : ℕ) (answer : Fetched) : Type 0 where
+  pub found : FetchesFrom (find_file old.files) name limit answer
+  pub fits : FitsLimit limit answer
+  pub fails : (answer ≡ fetched.Failed) ↔ Contains old.fails (raised old.calls)
+  pub after : new ≡ after_fetch old answer
 
 -- the bytes so far, how many there may be, and the count of faults
 pub record SinkState : Type 0 where

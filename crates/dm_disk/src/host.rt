@@ -2,7 +2,7 @@
 //! they tell nothing but how often the host answered with an error.
 
 ghost use Rattle.std.specs.Prelude.{◌≡◌, ◌≤◌, None};
-ghost use Rattle.dm_disk.specs.Fetching.{FitsLimit, faults_fetching};
+ghost use Rattle.dm_disk.specs.Fetching.{FitsLimit, HostFinds, faults_fetching};
 ghost use Rattle.dm_disk.specs.Putting.{FitsPiece, faults_putting};
 
 use crate::outside::{Fetched, Put, Sink, Source};
@@ -53,6 +53,8 @@ impl<R: Files> Source for FileSource<R> {
     ghost files = { λ _. None };
 
     ghost faults = { λ s. s };
+
+    ghost finds = { λ old new name limit answer. HostFinds old new limit answer };
 
     /// Reads at most one byte more than `limit`. A directory, a missing permission and every other
     /// error of the host is `Failed`.

@@ -4,7 +4,7 @@ ghost use Rattle.std.specs.Prelude.{◌≡◌, ◌↔◌, ◌≤◌, [], map, st
 ghost use Rattle.dm_disk.specs.Faults.{raised, Rose};
 ghost use Rattle.dm_disk.specs.Fetching.{find_file, FetchesFrom, FitsLimit, contents_of};
 ghost use Rattle.dm_disk.specs.Putting.{written_after, IsFault, FitsPiece};
-ghost use Rattle.dm_disk.specs.InMemory.{after_fetch, answer_to, after_put};
+ghost use Rattle.dm_disk.specs.InMemory.{MemFinds, after_fetch, answer_to, after_put};
 
 use crate::outside::{Fetched, Put, Sink, Source};
 use dm_event::NoMemory;
@@ -75,6 +75,8 @@ impl Source for MemSource {
     ghost files = { λ s. Some (find_file s.files) };
 
     ghost faults = { λ s. s.faults };
+
+    ghost finds = { MemFinds };
 
     fn fetch(&mut self, alloc: Global, name: &str, limit: u64) -> Fetched
         ensures found { FetchesFrom (find_file self.old.files) name.now limit result }

@@ -23,14 +23,25 @@ pub enum Fetched {
 
 /// Named files.
 pub trait Source {
+    ghost use Rattle.std.specs.Prelude.{◌≡◌, ◌≤◌, List, ℕ, Option};
+    ghost use Rattle.dm_disk.specs.Faults.{Rose};
+    ghost use Rattle.dm_disk.specs.Fetching.{Files, Fetches, FitsLimit};
+    ghost use Rattle.dm_disk.specs.declared.outside.Fetched.{Fetched};
+
     /// The files, where the source tells them.
     ghost files: { Self → Option Files };
 
     /// How often a fetch has failed. The count stays at the last value of a `u64`.
     ghost faults: { Self → ℕ };
 
+    /// What a fetch between these two states, of this name and with this limit, may have answered. Code that works
+    /// over any source learns it of an answer only by that fetch, so a contract that names the answer speaks of what
+    /// was fetched, also where the files aren't told.
+    ghost finds: { Self → Self → List ℕ → ℕ → Fetched → Type 0 };
+
     /// The bytes of a file, at most `limit` of them.
     fn fetch(&mut self, alloc: Global, name: &str, limit: u64) -> Fetched
+        ensures finds { finds self.old self.new name.now limit result }
         ensures same { files self.new ≡ files self.old }
         ensures found { Fetches (files self.old) name.now limit result }
         ensures fits { FitsLimit limit result }

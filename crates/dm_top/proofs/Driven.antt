@@ -12,7 +12,8 @@ use Rattle.dm_report.specs.Rest.{rest_text}
 use Rattle.dm_schedule.specs.Drive.{drive_of, answers_of}
 use Rattle.dm_top.specs.Command.{IsDriven, output_of}
 
-pub driven_of : {a b : Layout} (lines : List Line) {history steps : List Step} → a ≡ b → steps ≡ (drive_of b lines).history → history ≡ steps → Legal a history → Snapshot a history → Ordered history → SessionUp a history → OneMaster a history → IsDriven b lines history
+pub driven_of : {a b : Layout} (lines : List Line) {history steps : List Step} → a ≡ b → steps ≡ (drive_of b lines).history → history ≡ steps → Legal a history
+    → Snapshot a history → Ordered history → SessionUp a history → OneMaster a history → IsDriven b lines history
 driven_of lines {history} e driven same legal snapshot ordered session_up one_master = record {
   driven = same ∙ driven;
   legal = subst (λ (x : Layout). Legal x history) e legal;
@@ -23,5 +24,6 @@ driven_of lines {history} e driven same legal snapshot ordered session_up one_ma
 }
 
 -- the answers, and the rest after them, in a buffer that was empty
-pub text_of : {a b : Layout} (lines : List Line) {steps : List Step} {start after whole : List ℕ} → a ≡ b → steps ≡ (drive_of b lines).history → start ≡ [] → after ≡ start ++ answers_of b lines → whole ≡ after ++ rest_text a steps → whole ≡ output_of b lines
+pub text_of : {a b : Layout} (lines : List Line) {steps : List Step} {start after whole : List ℕ} → a ≡ b → steps ≡ (drive_of b lines).history → start ≡ []
+    → after ≡ start ++ answers_of b lines → whole ≡ after ++ rest_text a steps → whole ≡ output_of b lines
 text_of lines e driven empty answered rested = rw (rested, answered, empty, driven, e) refl

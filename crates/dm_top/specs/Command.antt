@@ -1,11 +1,14 @@
 -- What the command `step` does.
-use Rattle.std.specs.Prelude.{◌≡◌, ◌⊎◌, ℕ, ◌<◌, ◌≤◌, List, [], ◌∷◌, ◌++◌, length, take, map, Option, Some, None, IfSome, Ok, Err, codes, string_bytes}
+use Rattle.std.specs.Prelude.{◌≡◌, ◌⊎◌, ℕ, ◌<◌, ◌≤◌, List, [], ◌∷◌, ◌++◌, length, take, map, Option, Some, None, IfSome, Result, Ok, Err, codes, string_bytes}
 use Rattle.std.specs.declared.string.String.{String}
 use Rattle.std.specs.declared.alloc.Global.{Global}
+use Rattle.dm_disk.specs.declared.outside.Fetched.{Fetched}
+use Rattle.dm_disk.specs.declared.outside.Fetched.TheVariants as fetched
 use Rattle.dm_disk.specs.Faults.{Rose}
-use Rattle.dm_disk.specs.Fetching.{Files}
+use Rattle.dm_disk.specs.Fetching.{Files, Fetches, FitsLimit}
 use Rattle.dm_disk.specs.Putting.{appended}
 use Rattle.dm_event.specs.Layout.{Layout}
+use Rattle.dm_event.specs.declared.limits.TheConstants.{MAX_FILE}
 use Rattle.dm_event.specs.declared.step.Step.{Step}
 use Rattle.dm_event.specs.declared.why.LineFault.{LineFault}
 use Rattle.dm_model.specs.Legal.{Legal}
@@ -20,39 +23,13 @@ use Rattle.dm_schedule.specs.File.{schedule_of}
 use Rattle.dm_top.specs.declared.command.Ran.{Ran}
 use Rattle.dm_top.specs.declared.command.Ran.TheVariants.{Did}
 use Rattle.dm_top.specs.declared.status.Status.{Status}
-use Rattle.dm_top.specs.declared.status.Status.TheVariants as status
+use Rattle.dm_top.specs.declared.status.Status.TheVariants as statuses
 
 -- ---- the words and the file
 
 -- the words are `step` and the name of a file
 abbrev pub IsStep : List (String Global) → List ℕ → Type 0
 IsStep words name = map string_bytes words ≡ codes "step" ∷ name ∷ []
-
--- the most bytes that a step file may have
-abbrev pub file_limit : ℕ
-file_limit = 16777216
-
--- the bytes may be those of the file: where the source tells its files, they are
-abbrev pub IsFile : Option Files → List ℕ → List ℕ → Type 0
-IsFile files name bytes = IfSome files (λ told. told name ≡ Some bytes)
-
--- the words name a file that isn't too long, and whose bytes say this schedule
-pub record Says (files : Option Files) (words : List (String Global)) (layout : Layout) (lines : List Line) : Type 0 where
-  pub name : List ℕ
-  pub bytes : List ℕ
-  pub words_are : IsStep words name
-  pub file : IsFile files name bytes
-  pub fits : length bytes ≤ file_limit
-  pub schedule : schedule_of bytes ≡ Ok (layout, lines)
-
--- the words name a file that isn't too long, and of which this line is the first faulty one, with this first fault
-pub record IsFaulty (files : Option Files) (words : List (String Global)) (line : ℕ) (kind : LineFault) : Type 0 where
-  pub name : List ℕ
-  pub bytes : List ℕ
-  pub words_are : IsStep words name
-  pub file : IsFile files name bytes
-  pub fits : length bytes ≤ file_limit
-  pub schedule : schedule_of bytes ≡ Err (line, kind)
 
 -- ---- the history and the text
 
@@ -76,35 +53,90 @@ pub record IsDriven (layout : Layout) (lines : List Line) (history : List Step) 
 
 -- ---- how the command ends
 
--- what stood before the call and what stands after it: the source's files, what the sink had and has, and the counts of faults
-pub record Scene : Type 0 where
+-- what a source may have answered in this call, to a fetch of this name with the limit of a step file
+abbrev pub Answers : Type 1
+Answers = List ℕ → Fetched → Type 0
+
+-- the files of a source, and its counts of faults before the call and after it
+pub record Input : Type 0 where
   pub files : Option Files
+  pub before : ℕ
+  pub after : ℕ
+
+-- what a sink had and what it has, and its counts of faults before the call and after it
+pub record Output : Type 0 where
   pub had : Option (List ℕ)
   pub has : Option (List ℕ)
-  pub source_before : ℕ
-  pub source_after : ℕ
-  pub sink_before : ℕ
-  pub sink_after : ℕ
+  pub before : ℕ
+  pub after : ℕ
 
--- nothing is written
-abbrev pub IsSilent : Scene → Type 0
-IsSilent s = s.has ≡ s.had
+-- no step was made, and nothing is written
+pub record IsNothing (out : Output) (history : List Step) : Type 0 where
+  pub no_step : history ≡ []
+  pub silent : out.has ≡ out.had
 
--- what each status says, beside the history
-abbrev pub Ends : List (String Global) → Scene → List Step → Status → Type 0
-Ends words s history status.Done =
-    (layout : Layout) × (lines : List Line) × Says s.files words layout lines × IsDriven layout lines history × (s.has ≡ appended s.had (output_of layout lines))
-Ends words s history status.BadWords = ((name : List ℕ) → IsStep words name → ⊥) × (history ≡ []) × IsSilent s
-Ends words s history (status.Absent name) = IsStep words name × IfSome s.files (λ told. told name ≡ None) × (history ≡ []) × IsSilent s
-Ends words s history (status.TooLong name limit) =
-    IsStep words name × (limit ≡ file_limit) × IfSome s.files (λ told. (bytes : List ℕ) × (told name ≡ Some bytes) × (limit < length bytes)) × (history ≡ []) × IsSilent s
-Ends words s history (status.StepFault line kind) = IsFaulty s.files words line kind × (history ≡ []) × IsSilent s
-Ends words s history status.ReadFault = ((name : List ℕ) × IsStep words name) × Rose s.source_before s.source_after × (history ≡ []) × IsSilent s
-Ends words s history status.WriteFault =
-    (layout : Layout) × (lines : List Line) × Says s.files words layout lines × IsDriven layout lines history
-    × ((n : ℕ) × (s.has ≡ appended s.had (take n (output_of layout lines)))) × Rose s.sink_before s.sink_after
-Ends words s history status.Memory =
-    ((history ≡ []) ⊎ ((layout : Layout) × (lines : List Line) × Says s.files words layout lines × IsDriven layout lines history)) × IsSilent s
+-- the bytes are a schedule, and the history is the one that it drives
+pub record IsRun (bytes : List ℕ) (layout : Layout) (lines : List Line) (history : List Step) : Type 0 where
+  pub schedule : schedule_of bytes ≡ Ok (layout, lines)
+  pub driven : IsDriven layout lines history
 
-abbrev pub EndsAs : List (String Global) → Scene → Ran → Type 0
-EndsAs words s (Did status history) = Ends words s history.items status
+-- how the command ends on the bytes of the file: with a WriteFault a part of the text, from its front, is written
+abbrev pub EndsOn : List ℕ → Output → List Step → Status → Type 0
+EndsOn bytes out history statuses.Done =
+    (layout : Layout) × (lines : List Line) × IsRun bytes layout lines history × (out.has ≡ appended out.had (output_of layout lines))
+EndsOn bytes out history (statuses.StepFault line kind) = (schedule_of bytes ≡ Err (line, kind)) × IsNothing out history
+EndsOn bytes out history statuses.WriteFault =
+    (layout : Layout) × (lines : List Line) × IsRun bytes layout lines history
+    × ((n : ℕ) × (out.has ≡ appended out.had (take n (output_of layout lines)))) × Rose out.before out.after
+EndsOn bytes out history statuses.Memory =
+    ((history ≡ []) ⊎ ((layout : Layout) × (lines : List Line) × IsRun bytes layout lines history)) × (out.has ≡ out.had)
+EndsOn bytes out history statuses.BadWords = ⊥
+EndsOn bytes out history (statuses.Absent name) = ⊥
+EndsOn bytes out history (statuses.TooLong name limit) = ⊥
+EndsOn bytes out history statuses.ReadFault = ⊥
+
+-- how the command ends after this answer of the source: but for want of memory, in the one status that stands there
+abbrev pub EndsAfter : List ℕ → Fetched → Input → Output → List Step → Status → Type 0
+EndsAfter name (fetched.Found bytes) input out history status = EndsOn bytes.items out history status
+EndsAfter name fetched.Absent input out history status =
+    ((status ≡ statuses.Absent name) ⊎ (status ≡ statuses.Memory)) × IsNothing out history
+EndsAfter name fetched.TooLong input out history status =
+    ((status ≡ statuses.TooLong name MAX_FILE) ⊎ (status ≡ statuses.Memory)) × IsNothing out history
+EndsAfter name fetched.Failed input out history status = (status ≡ statuses.ReadFault) × Rose input.before input.after × IsNothing out history
+EndsAfter name fetched.NoMemory input out history status = (status ≡ statuses.Memory) × IsNothing out history
+
+-- the status that belongs to an answer of the source
+abbrev pub status_on : Result (Layout × List Line) (ℕ × LineFault) → Status
+status_on (Ok schedule) = statuses.Done
+status_on (Err (line, kind)) = statuses.StepFault line kind
+
+abbrev pub status_after : List ℕ → Fetched → Status
+status_after name (fetched.Found bytes) = status_on (schedule_of bytes.items)
+status_after name fetched.Absent = statuses.Absent name
+status_after name fetched.TooLong = statuses.TooLong name MAX_FILE
+status_after name fetched.Failed = statuses.ReadFault
+status_after name fetched.NoMemory = statuses.Memory
+
+-- it is that status, or there was no memory, or the sink had a fault where all else was done
+abbrev pub IsDue : Status → Status → Type 0
+IsDue due status = (status ≡ due) ⊎ (status ≡ statuses.Memory) ⊎ ((due ≡ statuses.Done) × (status ≡ statuses.WriteFault))
+
+-- the words are no command
+pub record IsNoCommand (words : List (String Global)) (out : Output) (history : List Step) (status : Status) : Type 0 where
+  pub words_are : (name : List ℕ) → IsStep words name → ⊥
+  pub bad : status ≡ statuses.BadWords
+  pub nothing : IsNothing out history
+
+-- the words are `step` and a name, for which the source was asked once and gave one answer
+pub record IsCommand (words : List (String Global)) (answers : Answers) (input : Input) (out : Output) (history : List Step) (status : Status) : Type 0 where
+  pub name : List ℕ
+  pub answer : Fetched
+  pub words_are : IsStep words name
+  pub came : answers name answer
+  pub told : Fetches input.files name MAX_FILE answer
+  pub fits : FitsLimit MAX_FILE answer
+  pub ends : EndsAfter name answer input out history status
+
+abbrev pub EndsAs : List (String Global) → Answers → Input → Output → Ran → Type 0
+EndsAs words answers input out (Did status history) =
+    IsNoCommand words out history.items status ⊎ IsCommand words answers input out history.items status

@@ -2,12 +2,12 @@
 
 ghost use Rattle.std.specs.Prelude.{◌≡◌, ◌≤◌, ◌<◌, ◌^◌, [], length, IfSome, IfNone, All};
 ghost use Rattle.dm_top.specs.Command.{IsStep, EndsAs};
-ghost use Rattle.dm_top.specs.Parts.{EndedAs, StepEndsAs};
+ghost use Rattle.dm_top.specs.Parts.{EndedAs, EndsOnAs};
 
 use crate::name::Name;
 use crate::status::Status;
 use dm_disk::{Fetched, Sink, Source, Written, write_all};
-use dm_event::{NoMemory, Step};
+use dm_event::{MAX_FILE, NoMemory, Step};
 use dm_history::HistoryError;
 use dm_report::write_rest;
 use dm_schedule::{drive, read};
@@ -19,9 +19,6 @@ pub enum Ran {
     /// It ended so, with this history.
     Did { status: Status, history: Vec<Step> },
 }
-
-/// The most bytes that a step file may have.
-const FILE_LIMIT: u64 = 16777216;
 
 fn step_name(words: &[String]) -> Option<&str>
     ensures found { IfSome result (λ name. IsStep words.now name.now) }
@@ -49,8 +46,13 @@ fn ended(alloc: Global, status: Status) -> Ran
 
 /// Reads the bytes, drives the lines, and writes the answers and the rest of the report.
 fn step<W: Sink>(alloc: Global, bytes: &[u8], sink: &mut W) -> Ran
-    requires { length bytes.now ≤ 16777216 }
-    ensures { StepEndsAs bytes.now (W.written sink.old) (W.written sink.new) (W.faults sink.old) (W.faults sink.new) result }
+    requires { length bytes.now ≤ MAX_FILE }
+    ensures { EndsOnAs bytes.now (record {
+      had = W.written sink.old;
+      has = W.written sink.new;
+      before = W.faults sink.old;
+      after = W.faults sink.new;
+    }) result }
 {
     let schedule = match read(alloc, bytes) {
         Err(HistoryError::Memory) => return ended(alloc, Status::Memory),
@@ -84,20 +86,21 @@ pub fn quiet<S: Source, W: Sink>(
     source: &mut S,
     sink: &mut W,
 ) -> Ran
-    ensures { EndsAs words.now (record {
+    ensures { EndsAs words.now (λ name answer. S.finds source.old source.new name MAX_FILE answer) (record {
       files = S.files source.old;
+      before = S.faults source.old;
+      after = S.faults source.new;
+    }) (record {
       had = W.written sink.old;
       has = W.written sink.new;
-      source_before = S.faults source.old;
-      source_after = S.faults source.new;
-      sink_before = W.faults sink.old;
-      sink_after = W.faults sink.new;
+      before = W.faults sink.old;
+      after = W.faults sink.new;
     }) result }
 {
     let Some(name) = step_name(words) else {
         return ended(alloc, Status::BadWords);
     };
-    match source.fetch(alloc, name, FILE_LIMIT) {
+    match source.fetch(alloc, name, MAX_FILE) {
         Fetched::Found(bytes) => step(alloc, &bytes, sink),
         Fetched::Absent => match Name::new(alloc, name) {
             Ok(name) => ended(alloc, Status::Absent { name }),
@@ -108,7 +111,7 @@ pub fn quiet<S: Source, W: Sink>(
                 alloc,
                 Status::TooLong {
                     name,
-                    limit: FILE_LIMIT,
+                    limit: MAX_FILE,
                 },
             ),
             Err(_) => ended(alloc, Status::Memory),
