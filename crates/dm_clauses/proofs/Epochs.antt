@@ -1,5 +1,5 @@
 -- The epochs of partitions in a legal past: there are no more than steps.
-use Rattle.std.proofs.Common.{ℕ, suc, ◌+◌, ◌≤◌, ◌≡◌, Bool, true, false, cond, List, [], ◌∷◌, Option, Some, None, length, refl, ap, arith, eqb-true}
+use Rattle.std.proofs.Common.{ℕ, suc, ◌≤◌, ◌≡◌, Bool, true, false, cond, List, [], ◌∷◌, Option, Some, None, length, refl, ap, arith}
 use Rattle.std.specs.Prelude.{◌==◌, option_map, option_to_list}
 use Rattle.dm_event.specs.Layout.{Layout}
 use Rattle.dm_event.specs.declared.placing.Placing.{Placing}
@@ -9,17 +9,12 @@ use Rattle.dm_event.specs.declared.step.Pending.{Pending}
 use Rattle.dm_event.specs.declared.step.Pending.TheVariants as pending
 use Rattle.dm_event.specs.declared.step.Step.{Step}
 use Rattle.dm_event.specs.declared.step.Step.TheVariants.{Route, Reply, Ask, Settle, Begin, Moved, Commit, End, Fail, Refresh, Release, Grant, Doubt, Restart}
-use Rattle.dm_event.specs.declared.why.Why.TheVariants as why
-use Rattle.dm_model.specs.Acts.{entries}
-use Rattle.dm_model.specs.Allowed.{clauses}
-use Rattle.dm_model.specs.Clauses.{holds}
 use Rattle.dm_model.specs.Doubts.{step_of, pending_at}
 use Rattle.dm_model.specs.Legal.{LegalPast}
 use Rattle.dm_model.specs.Placings.{placing, asked, settled, after_acts}
-use Rattle.dm_model.specs.Shape.{is_shaped}
-use Rattle.dm_model.proofs.ClausesHold.{all_hold, holds_true}
+use Rattle.dm_model.proofs.LegalSteps.{legal_release, legal_grant, legal_restart}
 use Rattle.dm_model.proofs.MastershipKept.{Held}
-use Rattle.dm_model.proofs.MastershipSound.{part_of, floor_at, asked_says, between_says, mastered_past}
+use Rattle.dm_model.proofs.MastershipSound.{part_of, mastery, mastered_past}
 use Rattle.dm_clauses.specs.Judging.{epoch_now}
 
 epoch_asked : (p : Placing) (to : ℕ) → epoch_now (asked p to) ≡ epoch_now p
@@ -51,13 +46,13 @@ module _ (layout : Layout) (past : List Step) (few : (q : ℕ) → epoch_now (pl
   few_granted site part epoch p h = either (part == p) (Granted site epoch) (placing layout past p) (suc (length past)) h (let f = few p in omega (arith, f))
 
   -- a pending step that is kept raises an epoch by one at most
-  few_kept : (site p : ℕ) (o : Option Pending) → Held (part_of layout) (entries past) (floor_at layout past site) (placing layout past) site o
+  few_kept : (site p : ℕ) (o : Option Pending) → Held (part_of layout) (mastery layout past) site o
       → epoch_now (after_acts p (option_to_list (option_map (step_of site) o)) (placing layout past p)) ≤ suc (length past)
   few_kept site p None h = let f = few p in omega (arith, f)
   few_kept site p (Some (pending.Commit e)) h = let f = few p in omega (arith, f)
-  few_kept site p (Some (pending.Release part epoch to vector)) h = few_released site part epoch to p vector (epoch_is (placing layout past part) (Asked site epoch to) (length past) h.0 (few part))
+  few_kept site p (Some (pending.Release part epoch to vector)) h = few_released site part epoch to p vector (epoch_is (placing layout past part) (Asked site epoch to) (length past) h.asked (few part))
   few_kept site p (Some (pending.Grant part epoch vector)) h =
-      few_granted site part epoch p (let f = epoch_is (placing layout past part) (Between h.0 h.1 site vector) (length past) h.2 (few part) in let g = h.3 in omega (arith, f, g))
+      few_granted site part epoch p (let f = epoch_is (placing layout past part) (Between h.from h.old site vector) (length past) h.between (few part) in let g = h.next in omega (arith, f, g))
 
 -- there are no more epochs than steps
 pub few_epochs : (layout : Layout) (past : List Step) → LegalPast layout past → (p : ℕ) → epoch_now (placing layout past p) ≤ length past
@@ -69,20 +64,17 @@ few_epochs layout (Settle part epoch ∷ past) h p =
     let f = few_epochs layout past h.0 p in
     either (part == p) (settled (placing layout past p)) (placing layout past p) (suc (length past)) (let e = epoch_settled (placing layout past p) in omega (arith, e, f)) (omega (arith, f))
 few_epochs layout (Release site part epoch to vector ∷ past) h p =
-    let c = all_hold (holds (is_shaped layout (Release site part epoch to vector)) why.Shape ∷ clauses layout past (Release site part epoch to vector)) h.1 in
-    let x = asked_says (placing layout past part) _ c.1 in
-    let due = eqb-true epoch x.1 (holds_true _ _ x.4.1.0) in
-    let f = epoch_is (placing layout past part) (Asked x.0 x.1 x.2) (length past) x.3 (few_epochs layout past h.0 part) in
-    few_released layout past (few_epochs layout past h.0) site part epoch to p vector (omega (arith, due, f))
+    let legal = legal_release layout past site part epoch to vector h.1 in
+    few_released layout past (few_epochs layout past h.0) site part epoch to p vector
+    (epoch_is (placing layout past part) (Asked site epoch to) (length past) legal.asked (few_epochs layout past h.0 part))
 few_epochs layout (Grant site part epoch vector ∷ past) h p =
-    let c = all_hold (holds (is_shaped layout (Grant site part epoch vector)) why.Shape ∷ clauses layout past (Grant site part epoch vector)) h.1 in
-    let x = between_says (placing layout past part) _ c.1 in
-    let due = eqb-true epoch (x.1 + 1) (holds_true _ _ x.5.1.0) in
-    let f = epoch_is (placing layout past part) (Between x.0 x.1 x.2 x.3) (length past) x.4 (few_epochs layout past h.0 part) in
-    few_granted layout past (few_epochs layout past h.0) site part epoch p (omega (arith, due, f))
+    let legal = legal_grant layout past site part epoch vector h.1 in
+    let next = legal.next in
+    let f = epoch_is (placing layout past part) (Between legal.from legal.old site vector) (length past) legal.between (few_epochs layout past h.0 part) in
+    few_granted layout past (few_epochs layout past h.0) site part epoch p (omega (arith, next, f))
 few_epochs layout (Restart site vector Kept ∷ past) h p =
-    let c = all_hold (holds (is_shaped layout (Restart site vector Kept)) why.Shape ∷ clauses layout past (Restart site vector Kept)) h.1 in
-    few_kept layout past (few_epochs layout past h.0) site p (pending_at site past) ((mastered_past layout past h.0).held site (holds_true _ _ c.1.0))
+    let legal = legal_restart layout past site vector Kept h.1 in
+    few_kept layout past (few_epochs layout past h.0) site p (pending_at site past) ((mastered_past layout past h.0).held site legal.fits)
 few_epochs layout (Restart site vector Clean ∷ past) h p = let f = few_epochs layout past h.0 p in omega (arith, f)
 few_epochs layout (Restart site vector Lost ∷ past) h p = let f = few_epochs layout past h.0 p in omega (arith, f)
 few_epochs layout (Route txn want min site choice ∷ past) h p = let f = few_epochs layout past h.0 p in omega (arith, f)

@@ -16,7 +16,7 @@ use Rattle.dm_model.specs.Doubts.{step_of, pending_at}
 use Rattle.dm_model.specs.Legal.{LegalPast}
 use Rattle.dm_model.specs.Placings.{placing, home_now, asked, settled, after_acts}
 use Rattle.dm_model.specs.Shape.{is_shaped}
-use Rattle.dm_model.proofs.Judged.{shape_of}
+use Rattle.dm_model.proofs.LegalSteps.{legal_release, legal_grant}
 use Rattle.dm_plain.proofs.Legality.{pending_shaped}
 
 -- the number is a site's
@@ -68,9 +68,9 @@ homes_in layout (Settle part epoch ∷ past) h m p l =
     either layout (part == p) (settled (placing layout past p)) (placing layout past p) (subst (InSites layout.sites) (sym (home_settled (placing layout past p))) f) f
 homes_in layout (Release site part epoch to vector ∷ past) h m p l =
     either layout (part == p) (Between site epoch to vector) (placing layout past p)
-    (in_sites layout.sites to (and_parts _ _ (and_parts _ _ (and_parts _ _ (shape_of layout past (Release site part epoch to vector) h.1)).1).1).0) (homes_in layout past h.0 m p l)
+    (let r = (legal_release layout past site part epoch to vector h.1).there in (r.one, r.top)) (homes_in layout past h.0 m p l)
 homes_in layout (Grant site part epoch vector ∷ past) h m p l =
-    either layout (part == p) (Granted site epoch) (placing layout past p) (in_sites layout.sites site (and_parts _ _ (shape_of layout past (Grant site part epoch vector) h.1)).0) (homes_in layout past h.0 m p l)
+    either layout (part == p) (Granted site epoch) (placing layout past p) (let r = (legal_grant layout past site part epoch vector h.1).here in (r.one, r.top)) (homes_in layout past h.0 m p l)
 homes_in layout (Restart site vector Kept ∷ past) h m p l =
     kept_in layout site p (pending_at site past) (placing layout past p) (pending_shaped layout site past h.0) (homes_in layout past h.0 m p l)
 homes_in layout (Route txn want min at choice ∷ past) h m p l = homes_in layout past h.0 m p l

@@ -1,11 +1,11 @@
 -- In every legal past the floor of each site is closed.
-use Rattle.std.proofs.Common.{ℕ, zero, suc, ◌<◌, ◌≤◌, ◌≡◌, ◌≢◌, Bool, true, false, ◌==◌, nat_le, if◌then◌else◌, List, [], ◌∷◌, ◌++◌, Option, Some, None, length, map, refl, sym, ap, ◌∙◌, subst, arith, inl, inr, ◌⊎◌, unwrap_or, le_trans}
-use Rattle.std.proofs.lemmas.Bool.{cases_eq, eqb-true, eqb-false, false≢true, and_parts, leb-true, cases_lt}
+use Rattle.std.proofs.Common.{ℕ, zero, suc, ◌<◌, ◌≤◌, ◌≡◌, ◌≢◌, Bool, true, false, ◌==◌, if◌then◌else◌, List, [], ◌∷◌, ◌++◌, Option, Some, None, length, map, refl, sym, ap, ◌∙◌, subst, arith, inl, inr, ◌⊎◌, unwrap_or, le_trans}
+use Rattle.std.proofs.lemmas.Bool.{cases_eq, eqb-true, eqb-false, false≢true, cases_lt}
 use Rattle.std.specs.List.{AllByRecursion as Each, cons_option}
 use Rattle.std.specs.Option.{option_or}
 use Rattle.std.specs.Prelude.{option_map, option_to_list, filter_map}
 use Rattle.dm_event.specs.Entries.{commit_vector}
-use Rattle.dm_event.specs.Layout.{Layout, is_site}
+use Rattle.dm_event.specs.Layout.{Layout}
 use Rattle.dm_event.specs.Vectors.{at, join_all, greatest}
 use Rattle.dm_event.specs.declared.placing.Placing.{Placing}
 use Rattle.dm_event.specs.declared.placing.Placing.TheVariants.{Between, Granted}
@@ -15,32 +15,32 @@ use Rattle.dm_event.specs.declared.step.Pending.{Pending}
 use Rattle.dm_event.specs.declared.step.Pending.TheVariants as pending
 use Rattle.dm_event.specs.declared.step.Step.{Step}
 use Rattle.dm_event.specs.declared.step.Step.TheVariants.{Ask, Settle, Commit, Release, Grant, Doubt, Restart}
-use Rattle.dm_event.specs.declared.why.Why.TheVariants as why
-use Rattle.dm_model.proofs.ClausesHold.{all_hold, holds_true, runs_due}
 use Rattle.dm_model.proofs.LaggingRefresh.{Grounded, grounded_past}
+use Rattle.dm_model.proofs.LegalSteps.{LegalCommit, legal_commit, legal_release, legal_grant, legal_restart, doubted_commit, doubted_release, doubted_grant}
 use Rattle.dm_model.proofs.ListFacts.{each_map}
-use Rattle.dm_model.proofs.MastershipSound.{MasteredPast, mastered_past, floor_at, release_says, grant_says, asked_between, settled_between}
-use Rattle.dm_model.proofs.Numbering.{Numbered, ClosedBy, closed_more, closed_vector}
+use Rattle.dm_model.proofs.MastershipSound.{mastered_past, floor_at, asked_between, settled_between}
+use Rattle.dm_model.proofs.Numbering.{Numbered, ClosedBy, closed_more}
 use Rattle.dm_model.proofs.NumbersKept.{InDoubt}
-use Rattle.dm_model.proofs.NumbersSound.{SoundPast, sound_past, sound_step}
-use Rattle.dm_model.proofs.RunningIsLast.{Seated, seated}
+use Rattle.dm_model.proofs.NumbersSound.{SoundPast, sound_past, sound_step, counts, vector_closed}
 use Rattle.dm_model.proofs.StepTests.{ran}
-use Rattle.dm_model.proofs.VectorFacts.{join_keeps, join_has, at_raised_own, long_raised, numbers_same, at_by, at_by_below, at_past, long_by, at_raised_other}
+use Rattle.dm_model.proofs.VectorFacts.{join_keeps, join_has, at_raised_own, long_raised, at_by, at_by_below, at_past, long_by, at_raised_other}
 use Rattle.dm_model.specs.Acts.{entries, acts, entry_of}
-use Rattle.dm_model.specs.Allowed.{Allowed, clauses, commit_clauses}
-use Rattle.dm_model.specs.Clauses.{holds}
+use Rattle.dm_model.specs.Allowed.{Allowed}
 use Rattle.dm_model.specs.Doubts.{step_of, is_down, down_after, pending_at}
 use Rattle.dm_model.specs.Floors.{floor_vector}
 use Rattle.dm_model.specs.Legal.{LegalPast}
 use Rattle.dm_model.specs.Placings.{placing, after_acts, asked, settled}
-use Rattle.dm_model.specs.Progress.{reached, site_vector}
-use Rattle.dm_model.specs.Runs.{began_at}
 use Rattle.dm_model.specs.Words.{latest}
+
+-- a grant's vector has a component for each site, and is closed
+pub record ClosedGrant (count : ℕ) (es : List Entry) (v : List ℕ) : Type 0 where
+  pub long : length v ≡ count
+  pub closed : ClosedBy es (at v)
 
 -- the act's vectors are closed
 abbrev pub ActClosed : ℕ → List Entry → Step → Type 0
 ActClosed count es (Commit e) = ClosedBy es (at e.begin)
-ActClosed count es (Grant site part epoch v) = ClosedBy es (at v) × (length v ≡ count)
+ActClosed count es (Grant site part epoch v) = ClosedGrant count es v
 ActClosed count es s = Unit {0}
 
 abbrev pub DoubtClosed : List Entry → Option Pending → Type 0
@@ -51,7 +51,7 @@ DoubtClosed es (Some (pending.Grant part epoch v)) = ClosedBy es (at v)
 
 act_more : (count : ℕ) (d : Entry) (es : List Entry) → Numbered (d ∷ es) → (s : Step) → ActClosed count es s → ActClosed count (d ∷ es) s
 act_more count d es n (Commit e) h = closed_more d es (at e.begin) n h
-act_more count d es n (Grant site part epoch v) h = (closed_more d es (at v) n h.0, h.1)
+act_more count d es n (Grant site part epoch v) h = record { long = h.long; closed = closed_more d es (at v) n h.closed }
 act_more count d es n s h = tt
 
 doubt_more : (d : Entry) (es : List Entry) → Numbered (d ∷ es) → (o : Option Pending) → DoubtClosed es o → DoubtClosed (d ∷ es) o
@@ -60,21 +60,38 @@ doubt_more d es n (Some (pending.Commit e)) h = closed_more d es (at e.begin) n 
 doubt_more d es n (Some (pending.Release part epoch to v)) h = closed_more d es (at v) n h
 doubt_more d es n (Some (pending.Grant part epoch v)) h = closed_more d es (at v) n h
 
+-- what a past gives of acts and of what is on its way
+pub record Deeds : Type 0 where
+  pub entries : List Entry
+  pub acts : List Step
+  pub placing : ℕ → Placing
+  pub down : ℕ → Bool
+  pub doubt : ℕ → Option Pending
+
+abbrev pub deeds : Layout → List Step → Deeds
+deeds layout past = record {
+  entries = entries past;
+  acts = acts past;
+  placing = placing layout past;
+  down = λ i. is_down i past;
+  doubt = λ i. pending_at i past;
+}
+
 -- the vectors of acts, of partitions between masters, and of what is in doubt are closed
-pub record Firm (count : ℕ) (es : List Entry) (ds : List Step) (place : ℕ → Placing) (down : ℕ → Bool) (doubt : ℕ → Option Pending) : Type 0 where
-  pub acts : Each (ActClosed count es) ds
-  pub between : (p x y z : ℕ) (v : List ℕ) → place p ≡ Between x y z v → ClosedBy es (at v)
-  pub held : (i : ℕ) → down i ≡ true → DoubtClosed es (doubt i)
+pub record Firm (count : ℕ) (d : Deeds) : Type 0 where
+  pub acts : Each (ActClosed count d.entries) d.acts
+  pub between : (p x y z : ℕ) (v : List ℕ) → d.placing p ≡ Between x y z v → ClosedBy d.entries (at v)
+  pub held : (i : ℕ) → d.down i ≡ true → DoubtClosed d.entries (d.doubt i)
 
 abbrev pub FirmPast : Layout → List Step → Type 0
-FirmPast layout past = Firm layout.sites (entries past) (acts past) (placing layout past) (λ i. is_down i past) (λ i. pending_at i past)
+FirmPast layout past = Firm layout.sites (deeds layout past)
 
 by_part : (b : Bool) (x y : Placing) (P : List ℕ → Type 0) → ((k l m : ℕ) (v : List ℕ) → x ≡ Between k l m v → P v) → ((k l m : ℕ) (v : List ℕ) → y ≡ Between k l m v → P v)
     → (k l m : ℕ) (v : List ℕ) → (if b then x else y) ≡ Between k l m v → P v
 by_part true x y P f g = f
 by_part false x y P f g = g
 
-module _ (layout : Layout) (past : List Step) (n : SoundPast layout past) (seat : Seated past) (m : MasteredPast layout past) (s : FirmPast layout past) where
+module _ (layout : Layout) (past : List Step) (n : SoundPast layout past) (s : FirmPast layout past) where
   firm_doubt : (site : ℕ) (p : Pending) → DoubtClosed (entries past) (Some p) → FirmPast layout (Doubt site p ∷ past)
   firm_doubt site p f = record { acts = s.acts; between = s.between; held = λ i h. by_site i (site == i) h }
     where
@@ -83,11 +100,11 @@ module _ (layout : Layout) (past : List Step) (n : SoundPast layout past) (seat 
       by_site i false h = s.held i h
 
   rise : (site k : ℕ) (o : Option Bool) → unwrap_or (option_or (if site == k then Some false else None) o) false ≡ true → unwrap_or o false ≡ true
-  rise site k o r = elim (ran (site == k) false o r) [ inl q ↦ absurd (false≢true q.1) | inr q ↦ q.1 ]
+  rise site k o r = elim (ran (site == k) false o r) [ inl q ↦ absurd (false≢true q.now) | inr q ↦ q.before ]
 
   -- an entry comes
   firm_entry : (e : Entry) (down' : ℕ → Bool) → Numbered (e ∷ entries past) → ClosedBy (entries past) (at e.begin) → ((i : ℕ) → down' i ≡ true → is_down i past ≡ true)
-      → Firm layout.sites (e ∷ entries past) (Commit e ∷ acts past) (placing layout past) down' (λ i. pending_at i past)
+      → Firm layout.sites (record (deeds layout past) { entries = e ∷ entries past; acts = Commit e ∷ acts past; down = down' })
   firm_entry e down' q c d = record {
     acts = (closed_more e (entries past) (at e.begin) q c, each_map (ActClosed layout.sites (entries past)) (ActClosed layout.sites (e ∷ entries past)) (act_more layout.sites e (entries past) q) (acts past) s.acts);
     between = λ p x y z v h. closed_more e (entries past) (at v) q (s.between p x y z v h);
@@ -95,7 +112,8 @@ module _ (layout : Layout) (past : List Step) (n : SoundPast layout past) (seat 
   }
 
   firm_release : (site part epoch to : ℕ) (v : List ℕ) (down' : ℕ → Bool) → ClosedBy (entries past) (at v) → ((i : ℕ) → down' i ≡ true → is_down i past ≡ true)
-      → Firm layout.sites (entries past) (Release site part epoch to v ∷ acts past) (λ p. if part == p then Between site epoch to v else placing layout past p) down' (λ i. pending_at i past)
+      → Firm layout.sites
+      (record (deeds layout past) { acts = Release site part epoch to v ∷ acts past; placing = λ p. if part == p then Between site epoch to v else placing layout past p; down = down' })
   firm_release site part epoch to v down' c d = record {
     acts = (tt, s.acts);
     between = λ p. by_part (part == p) (Between site epoch to v) (placing layout past p) (λ w. ClosedBy (entries past) (at w)) (λ k l x w e. subst (λ (u : List ℕ). ClosedBy (entries past) (at u)) (cc (e)) c) (s.between p);
@@ -103,25 +121,31 @@ module _ (layout : Layout) (past : List Step) (n : SoundPast layout past) (seat 
   }
 
   firm_grant : (site part epoch : ℕ) (v : List ℕ) (down' : ℕ → Bool) → length v ≡ layout.sites → ClosedBy (entries past) (at v) → ((i : ℕ) → down' i ≡ true → is_down i past ≡ true)
-      → Firm layout.sites (entries past) (Grant site part epoch v ∷ acts past) (λ p. if part == p then Granted site epoch else placing layout past p) down' (λ i. pending_at i past)
+      → Firm layout.sites
+      (record (deeds layout past) { acts = Grant site part epoch v ∷ acts past; placing = λ p. if part == p then Granted site epoch else placing layout past p; down = down' })
   firm_grant site part epoch v down' long c d = record {
-    acts = ((c, long), s.acts);
+    acts = (record { long = long; closed = c }, s.acts);
     between = λ p. by_part (part == p) (Granted site epoch) (placing layout past p) (λ w. ClosedBy (entries past) (at w)) (λ k l x w e. absurd (cc (e))) (s.between p);
     held = λ i h. s.held i (d i h);
   }
 
-  commit_closed : (e : Entry) → Each (λ c. c ≡ None) (commit_clauses layout past e) → ClosedBy (entries past) (at e.begin)
-  commit_closed e c =
-      let r = n.running e.origin e.txn (runs_due layout past e.txn e.origin (holds_true _ _ c.0) c.1.0) in
-      let v = numbers_same e.begin (began_at e.txn past) (holds_true _ _ c.1.1.1.0) in
-      subst (λ (u : List ℕ). ClosedBy (entries past) (at u)) (sym (v ∙ ap (λ (o : Option (List ℕ)). unwrap_or o []) r.1)) (n.begins e.txn r.0 r.1)
+  commit_closed : (e : Entry) → LegalCommit layout past e → ClosedBy (entries past) (at e.begin)
+  commit_closed e legal =
+      let r = n.running e.origin e.txn legal.runs in
+      subst (λ (u : List ℕ). ClosedBy (entries past) (at u)) (sym (legal.began ∙ ap (λ (o : Option (List ℕ)). unwrap_or o []) r.is)) (n.begins e.txn r.begin r.is)
 
-  vector_closed : (site : ℕ) (v : List ℕ) → v ≡ site_vector layout.sites past site → ClosedBy (entries past) (at v)
-  vector_closed site v e = subst (λ (u : List ℕ). ClosedBy (entries past) (at u)) (sym e) (closed_vector layout.sites (entries past) (λ j. reached site j past) n.sized (n.closed site))
+  -- after a Restart that keeps the pending step
+  abbrev kept_deeds : ℕ → List ℕ → Option Pending → Deeds
+  kept_deeds site vector o = record {
+    entries = filter_map entry_of (option_to_list (option_map (step_of site) o) ++ acts past);
+    acts = option_to_list (option_map (step_of site) o) ++ acts past;
+    placing = λ p. after_acts p (option_to_list (option_map (step_of site) o)) (placing layout past p);
+    down = λ i. is_down i (Restart site vector Kept ∷ past);
+    doubt = λ i. pending_at i past;
+  }
 
-  firm_kept : (site : ℕ) (vector : List ℕ) (o : Option Pending) → InDoubt layout.sites (entries past) (λ j. reached site j past) site o → DoubtClosed (entries past) o → Numbered (filter_map entry_of (option_to_list (option_map (step_of site) o) ++ acts past))
-      → Firm layout.sites (filter_map entry_of (option_to_list (option_map (step_of site) o) ++ acts past)) (option_to_list (option_map (step_of site) o) ++ acts past)
-      (λ p. after_acts p (option_to_list (option_map (step_of site) o)) (placing layout past p)) (λ i. is_down i (Restart site vector Kept ∷ past)) (λ i. pending_at i past)
+  firm_kept : (site : ℕ) (vector : List ℕ) (o : Option Pending) → InDoubt layout.sites (counts past) site o → DoubtClosed (entries past) o
+      → Numbered (kept_deeds site vector o).entries → Firm layout.sites (kept_deeds site vector o)
   firm_kept site vector None l f q = record { acts = s.acts; between = s.between; held = λ i h. s.held i (rise site i _ h) }
   firm_kept site vector (Some (pending.Commit e)) l f q = firm_entry e (λ i. is_down i (Restart site vector Kept ∷ past)) q f (λ i h. rise site i _ h)
   firm_kept site vector (Some (pending.Release part epoch to v)) l f q = firm_release site part epoch to v (λ i. is_down i (Restart site vector Kept ∷ past)) f (λ i h. rise site i _ h)
@@ -139,37 +163,30 @@ module _ (layout : Layout) (past : List Step) (n : SoundPast layout past) (seat 
     between = λ p. by_part (part == p) (settled (placing layout past p)) (placing layout past p) (λ w. ClosedBy (entries past) (at w)) (λ k l x w e. s.between p k l x w (settled_between (placing layout past p) k l x w e)) (s.between p);
   }
   firm_step (Commit e) h =
-      let c = all_hold (holds _ why.Shape ∷ clauses layout past (Commit e)) h in
-      firm_entry e (λ i. is_down i past) (sound_step layout past (Commit e) n h).numbered (commit_closed e c.1) (λ i d. d)
+      firm_entry e (λ i. is_down i past) (sound_step layout past (Commit e) n h).numbered (commit_closed e (legal_commit layout past e h)) (λ i d. d)
   firm_step (Release site part epoch to vector) h =
-      let c = all_hold (holds _ why.Shape ∷ clauses layout past (Release site part epoch to vector)) h in
-      firm_release site part epoch to vector (λ i. is_down i past) (vector_closed site vector (release_says layout past n seat m site part epoch to vector c.1).1) (λ i d. d)
+      let legal = legal_release layout past site part epoch to vector h in
+      firm_release site part epoch to vector (λ i. is_down i past) (vector_closed layout past n site vector legal.at_vector) (λ i d. d)
   firm_step (Grant site part epoch vector) h =
-      let c = all_hold (holds _ why.Shape ∷ clauses layout past (Grant site part epoch vector)) h in
-      let long = eqb-true (length vector) layout.sites (and_parts _ (length vector == layout.sites) (and_parts (is_site layout site) _ (holds_true _ _ c.0)).1).1 in
-      let f = grant_says layout past n seat m site part epoch vector long c.1 in
-      firm_grant site part epoch vector (λ i. is_down i past) long (s.between part f.0 f.1 site vector f.2) (λ i d. d)
-  firm_step (Doubt site (pending.Commit e)) h =
-      let c = all_hold (holds _ why.Shape ∷ clauses layout past (Doubt site (pending.Commit e))) h in
-      firm_doubt site (pending.Commit e) (commit_closed e c.1)
+      let legal = legal_grant layout past site part epoch vector h in
+      firm_grant site part epoch vector (λ i. is_down i past) legal.long (s.between part legal.from legal.old site vector legal.between) (λ i d. d)
+  firm_step (Doubt site (pending.Commit e)) h = firm_doubt site (pending.Commit e) (commit_closed e (doubted_commit layout past site e h).commit)
   firm_step (Doubt site (pending.Release part epoch to vector)) h =
-      let c = all_hold (holds _ why.Shape ∷ clauses layout past (Doubt site (pending.Release part epoch to vector))) h in
-      firm_doubt site (pending.Release part epoch to vector) (vector_closed site vector (release_says layout past n seat m site part epoch to vector c.1).1)
+      let legal = doubted_release layout past site part epoch to vector h in
+      firm_doubt site (pending.Release part epoch to vector) (vector_closed layout past n site vector legal.at_vector)
   firm_step (Doubt site (pending.Grant part epoch vector)) h =
-      let c = all_hold (holds _ why.Shape ∷ clauses layout past (Doubt site (pending.Grant part epoch vector))) h in
-      let long = eqb-true (length vector) layout.sites (and_parts _ (length vector == layout.sites) (and_parts (is_site layout site) _ (holds_true _ _ c.0)).1).1 in
-      let f = grant_says layout past n seat m site part epoch vector long c.1 in
-      firm_doubt site (pending.Grant part epoch vector) (s.between part f.0 f.1 site vector f.2)
+      let legal = doubted_grant layout past site part epoch vector h in
+      firm_doubt site (pending.Grant part epoch vector) (s.between part legal.from legal.old site vector legal.between)
   firm_step (Restart site vector Clean) h = record { acts = s.acts; between = s.between; held = λ i d. s.held i (rise site i _ d) }
   firm_step (Restart site vector Lost) h = record { acts = s.acts; between = s.between; held = λ i d. s.held i (rise site i _ d) }
   firm_step (Restart site vector Kept) h =
-      let c = all_hold (holds _ why.Shape ∷ clauses layout past (Restart site vector Kept)) h in
-      firm_kept site vector (pending_at site past) (n.in_doubt site (holds_true _ _ c.1.0)) (s.held site (holds_true _ _ c.1.0)) (sound_step layout past (Restart site vector Kept) n h).numbered
+      let legal = legal_restart layout past site vector Kept h in
+      firm_kept site vector (pending_at site past) (n.in_doubt site legal.fits) (s.held site legal.fits) (sound_step layout past (Restart site vector Kept) n h).numbered
   firm_step other h = s
 
 pub firm_past : (layout : Layout) (past : List Step) → LegalPast layout past → FirmPast layout past
 firm_past layout [] h = record { acts = tt; between = λ p x y z v e. absurd (cc (e)); held = λ i d. absurd (false≢true d) }
-firm_past layout (st ∷ past) h = firm_step layout past (sound_past layout past h.0) (seated layout past h.0) (mastered_past layout past h.0) (firm_past layout past h.0) st h.1
+firm_past layout (st ∷ past) h = firm_step layout past (sound_past layout past h.0) (firm_past layout past h.0) st h.1
 
 -- ---- the floor
 
@@ -221,14 +238,13 @@ begin_below count e a j = elim (cases_eq j e.origin) [
 around_all : (layout : Layout) (es : List Entry) → Numbered es → Grounded layout es → Each (λ e. length e.begin ≡ layout.sites) es → Each (Around layout.sites) es
 around_all layout [] n g l = tt
 around_all layout (e ∷ es) n g l =
-    let r = and_parts (nat_le 1 e.origin) (nat_le e.origin layout.sites) g.0 in
-    let top = leb-true e.origin layout.sites r.1 in
+    let top = g.0.site.top in
     let here = l.0 in
-    (record { one = leb-true 1 e.origin r.0; in' = omega (arith, top, here); long = l.0; own = n.1 }, around_all layout es n.2 g.2 l.1)
+    (record { one = g.0.site.one; in' = omega (arith, top, here); long = here; own = n.0.before }, around_all layout es n.1 g.1 l.1)
 
 seq_all : (es : List Entry) → Numbered es → Each (λ e. 1 ≤ e.seq) es
 seq_all [] n = tt
-seq_all (e ∷ es) n = (omega (arith, n.0), seq_all es n.2)
+seq_all (e ∷ es) n = ((let m = n.0.seq in omega (arith, m)), seq_all es n.1)
 
 -- what is closed has, with an entry, all that the entry began with
 abbrev Rule : List Entry → Entry → Type 0
@@ -258,7 +274,7 @@ other_inside es count i d one ne r (Commit e ∷ ds) a l h j =
 other_inside es count i d one ne r (Grant site part epoch v ∷ ds) a l h j =
     by_cons (site == i) v (filter_map (floor_vector i) ds) (λ vs. d.seq ≤ at (join_all count vs) d.origin → at d.begin j ≤ at (join_all count vs) j)
     (λ t k. elim (inside_join count v (filter_map (floor_vector i) ds) d.seq d.origin one k) [
-      | inl p ↦ le_trans (r v a.0.0 p j) (join_has count v (filter_map (floor_vector i) ds) a.0.1 j)
+      | inl p ↦ le_trans (r v a.0.closed p j) (join_has count v (filter_map (floor_vector i) ds) a.0.long j)
       | inr p ↦ le_trans (other_inside es count i d one ne r ds a.1 l p j) (join_keeps count v (filter_map (floor_vector i) ds) j)
     ])
     (λ t k. other_inside es count i d one ne r ds a.1 l k j) h

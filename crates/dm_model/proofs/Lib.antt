@@ -4,11 +4,12 @@ pub mod VectorFacts
 pub mod StepTests
 pub mod Numbering
 pub mod ClausesHold
+pub mod StandingRoutes
+pub mod LegalSteps
 pub mod Judged
 pub mod Histories
 pub mod NumbersKept
 pub mod NumbersSound
-pub mod StandingRoutes
 pub mod RunningIsLast
 pub mod AttemptStates
 pub mod RunningStates

@@ -1,11 +1,10 @@
 -- In every legal past the writers of a key are in order, since its master has all of them.
-use Rattle.std.proofs.Common.{ℕ, suc, ◌+◌, ◌/◌, ◌≤◌, ◌≡◌, ◌≢◌, Bool, true, false, not, ◌==◌, nat_le, ◌&&◌, cond, if◌then◌else◌, List, [], ◌∷◌, ◌++◌, Option, Some, None, map, length, refl, sym, ap, ◌∙◌, subst, arith, inl, inr, unwrap_or, le_trans}
-use Rattle.std.proofs.lemmas.Bool.{not-true, cases_Bool, cases_eq, eqb-true, eqb-false, eq-eqb, ne_eqb, cond-true, cond-false, false≢true, and_parts, leb-true, false_from_ne_true}
-use Rattle.std.specs.List.{AllByRecursion as Each}
+use Rattle.std.proofs.Common.{ℕ, suc, ◌+◌, ◌/◌, ◌≤◌, ◌≡◌, ◌≢◌, Bool, true, false, not, ◌==◌, ◌&&◌, cond, if◌then◌else◌, List, [], ◌∷◌, ◌++◌, Option, Some, None, map, length, refl, sym, ap, ◌∙◌, subst, arith, inl, inr, unwrap_or, le_trans}
+use Rattle.std.proofs.lemmas.Bool.{cases_eq, eqb-true, eqb-false, eq-eqb, ne_eqb, cond-true, cond-false, false≢true, false_from_ne_true}
 use Rattle.std.specs.Prelude.{option_map, option_to_list, filter_map}
 use Rattle.dm_event.specs.Txns.{same_txn}
 use Rattle.dm_event.specs.Entries.{commit_vector}
-use Rattle.dm_event.specs.Layout.{Layout, is_site}
+use Rattle.dm_event.specs.Layout.{Layout}
 use Rattle.dm_event.specs.Vectors.{at, join_all, greatest}
 use Rattle.dm_event.specs.declared.attempt.AttemptState.{AttemptState}
 use Rattle.dm_event.specs.declared.placing.Placing.{Placing}
@@ -20,37 +19,34 @@ use Rattle.dm_event.specs.declared.step.Step.{Step}
 use Rattle.dm_event.specs.declared.step.Step.TheVariants.{Route, Ask, Settle, Begin, Commit, End, Fail, Refresh, Release, Grant, Doubt, Restart}
 use Rattle.dm_event.specs.declared.step.TxnId.{TxnId}
 use Rattle.dm_event.specs.declared.step.Want.{Want}
-use Rattle.dm_event.specs.declared.why.Why.TheVariants as why
-use Rattle.dm_model.proofs.ClausesHold.{all_hold, holds_true, map_none, runs_due, vector_clauses}
-use Rattle.dm_model.proofs.KeysAndBodies.{each_among, among_map, each_unmap, no_common, same_keys, body_writes, all_declared}
-use Rattle.dm_model.proofs.ListFacts.{cons_true, cons_false, each_map, find_none}
-use Rattle.dm_model.proofs.MastershipKept.{WritersWithin, Held}
+use Rattle.dm_event.specs.declared.step.Pair.{Pair}
+use Rattle.dm_model.proofs.LegalSteps.{LegalCommit, LegalRelease, LegalGrant, MaySet, legal_route, legal_begin, legal_commit, legal_release, legal_grant, legal_restart}
+use Rattle.dm_model.proofs.LegalSteps.{doubted_commit, doubted_release, doubted_grant}
+use Rattle.dm_model.proofs.KeysAndBodies.{each_among, among_map, each_unmap, no_common, has_key, body_writes, all_declared}
+use Rattle.dm_model.proofs.ListFacts.{cons_true, cons_false, find_none}
+use Rattle.dm_model.proofs.MastershipKept.{Mastery, Mastered, MayWrite, Held}
 use Rattle.dm_model.proofs.MastershipKept as mastered
 use Rattle.dm_model.proofs.Numbering.{count_at, count_own, count_other, count_more}
-use Rattle.dm_model.proofs.NumbersKept.{Within}
-use Rattle.dm_model.proofs.NumbersKept as sound
-use Rattle.dm_model.proofs.NumbersSound.{SoundPast, sound_past, commit_says, kept_entries, kept_past, refreshed_own, refreshed_other}
+use Rattle.dm_model.proofs.NumbersKept.{Within, Waits, InDoubt}
+use Rattle.dm_model.proofs.NumbersSound.{SoundPast, sound_past, counts, commit_within, doubt_stops, doubt_waits, kept_entries, kept_past, refreshed_own, refreshed_other}
 use Rattle.dm_model.proofs.RunningIsLast.{Seated, seated}
 use Rattle.dm_model.proofs.RunningList.{each_running, no_holder}
 use Rattle.dm_model.proofs.SameValues.{txn_same, txn_own}
 use Rattle.dm_model.proofs.StepTests.{went_on, ran, taken, passed}
-use Rattle.dm_model.proofs.VectorFacts.{join_keeps, join_has, join_least, long_raised, at_raised_own, at_by_within, at_most, numbers_same, at_by_below, long_by, at_raised_other}
+use Rattle.dm_model.proofs.VectorFacts.{join_keeps, join_has, join_least, long_raised, at_raised_own, at_by_within, at_most, at_by_below, long_by, at_raised_other}
 use Rattle.dm_model.specs.Acts.{entries, acts}
-use Rattle.dm_model.specs.Allowed.{Allowed, clauses, commit_clauses, release_clauses, grant_clauses, with_kept}
+use Rattle.dm_model.specs.Allowed.{Allowed, with_kept, elsewhere}
 use Rattle.dm_model.specs.Attempts.{Routing, state, wanted_keys, declared}
-use Rattle.dm_model.specs.Bodies.{ran_at}
 use Rattle.dm_model.specs.Choices.{parts_in_order}
-use Rattle.dm_model.specs.Clauses.{Clause, holds}
 use Rattle.dm_model.specs.Doubts.{step_of, is_down, pending_at}
 use Rattle.dm_model.specs.Floors.{floor, floor_vector, floor_vectors}
 use Rattle.dm_model.specs.Legal.{LegalPast}
 use Rattle.dm_model.specs.Ordered.{writes_key, OrderedEntries}
 use Rattle.dm_model.specs.Placings.{placing, after_acts, asked, settled, masters_now, may_begin_now}
 use Rattle.dm_model.specs.Progress.{reached, refreshed, site_vector, entry_count}
-use Rattle.dm_model.specs.Rows.{found_fits, when_asked, when_between, may_route}
-use Rattle.dm_model.specs.Runs.{runs, running, begin_vector, began_at}
-use Rattle.dm_model.specs.Shape.{is_txn}
-use Rattle.dm_model.specs.Tests.{same_pairs, is_among}
+use Rattle.dm_model.specs.Rows.{found_fits, may_route}
+use Rattle.dm_model.specs.Runs.{runs, running, begin_vector}
+use Rattle.dm_model.specs.Tests.{is_among}
 use Rattle.dm_model.specs.Values.{value}
 
 abbrev pub part_of : Layout → ℕ → ℕ
@@ -59,30 +55,30 @@ part_of layout key = key / layout.width
 abbrev pub floor_at : Layout → List Step → ℕ → ℕ → ℕ
 floor_at layout past i j = at (floor layout.sites past i) j
 
--- mastership is sound in the past
+-- what the past gives of mastership
+abbrev pub mastery : Layout → List Step → Mastery
+mastery layout past = record {
+  entries = entries past;
+  reached = λ i j. reached i j past;
+  floor = floor_at layout past;
+  runs = λ i t. runs i t past;
+  begins = λ t. begin_vector t past;
+  declared = λ t. declared t past;
+  placing = placing layout past;
+  down = λ i. is_down i past;
+  doubt = λ i. pending_at i past;
+}
+
+-- it is sound
 abbrev pub MasteredPast : Layout → List Step → Type 0
-MasteredPast layout past =
-    mastered.Mastered (part_of layout) (entries past) (λ i j. reached i j past) (floor_at layout past) (λ i t. runs i t past) (λ t. begin_vector t past) (λ t. declared t past)
-    (placing layout past) (λ i. is_down i past) (λ i. pending_at i past)
+MasteredPast layout past = Mastered (part_of layout) (mastery layout past)
 
 -- what a placing says of masters
-pub masters_of_may_begin : (p : Placing) (i : ℕ) → may_begin_now p i ≡ true → masters_now p i ≡ true
+masters_of_may_begin : (p : Placing) (i : ℕ) → may_begin_now p i ≡ true → masters_now p i ≡ true
 masters_of_may_begin (Settled site epoch) i h = h
 masters_of_may_begin (Asked site epoch to) i h = absurd (false≢true h)
 masters_of_may_begin (Between site epoch to vector) i h = absurd (false≢true h)
 masters_of_may_begin (Granted site epoch) i h = h
-
-pub asked_says : (p : Placing) (go : ℕ → ℕ → ℕ → List Clause) → Each (λ c. c ≡ None) (when_asked p go) → (i : ℕ) × (e : ℕ) × (to : ℕ) × (p ≡ Asked i e to) × Each (λ c. c ≡ None) (go i e to)
-asked_says (Settled site epoch) go h = absurd (cc (h.0))
-asked_says (Asked site epoch to) go h = (site, epoch, to, refl, h)
-asked_says (Between site epoch to vector) go h = absurd (cc (h.0))
-asked_says (Granted site epoch) go h = absurd (cc (h.0))
-
-pub between_says : (p : Placing) (go : ℕ → ℕ → List ℕ → List Clause) → Each (λ c. c ≡ None) (when_between p go) → (i : ℕ) × (e : ℕ) × (to : ℕ) × (v : List ℕ) × (p ≡ Between i e to v) × Each (λ c. c ≡ None) (go e to v)
-between_says (Settled site epoch) go h = absurd (cc (h.0))
-between_says (Asked site epoch to) go h = absurd (cc (h.0))
-between_says (Between site epoch to vector) go h = (site, epoch, to, vector, refl, h)
-between_says (Granted site epoch) go h = absurd (cc (h.0))
 
 asked_masters : (p : Placing) (to k : ℕ) → masters_now (asked p to) k ≡ masters_now p k
 asked_masters (Settled site epoch) to k = refl
@@ -114,18 +110,17 @@ choose_placing P f true p h k = h
 choose_placing P f false p h k = k
 
 module _ (layout : Layout) (past : List Step) (n : SoundPast layout past) (seat : Seated past) (s : MasteredPast layout past) where
-  -- what the clauses of a commit say of the entry's keys
-  pub commit_keys : (e : Entry) → Each (λ c. c ≡ None) (commit_clauses layout past e) → (key : ℕ) → writes_key e key ≡ true → is_among (declared e.txn past) key ≡ true
-  commit_keys e c key w =
-      let b = and_parts (same_pairs e.reads (ran_at layout past e.begin e.ops).reads) (same_pairs e.writes (ran_at layout past e.begin e.ops).writes) (holds_true _ _ c.1.1.1.1.1.0) in
-      all_declared (declared e.txn past) e.ops (map_none _ _ c.1.1.1.1.0) key
-      (body_writes (λ k. value layout past k e.begin) e.ops key (same_keys e.writes (ran_at layout past e.begin e.ops).writes key b.1 w))
+  -- an entry that is committed declared the keys that it writes, and may write them
+  commit_keys : (e : Entry) → LegalCommit layout past e → (key : ℕ) → writes_key e key ≡ true → is_among (declared e.txn past) key ≡ true
+  commit_keys e legal key w =
+      all_declared (declared e.txn past) e.ops legal.declares key
+      (body_writes (λ k. value layout past k e.begin) e.ops key (subst (λ (ps : List Pair). has_key ps key ≡ true) legal.writes w))
 
-  pub commit_holds : (e : Entry) → Each (λ c. c ≡ None) (commit_clauses layout past e) → (key : ℕ) → writes_key e key ≡ true
-      → (masters_now (placing layout past (part_of layout key)) e.origin ≡ true) × WritersWithin (entries past) key (at e.begin)
-  commit_holds e c key w =
-      let x = s.running e.origin e.txn (runs_due layout past e.txn e.origin (holds_true _ _ c.0) c.1.0) key (commit_keys e c key w) in
-      (x.0, subst (λ (v : List ℕ). WritersWithin (entries past) key (at v)) (sym (numbers_same e.begin (began_at e.txn past) (holds_true _ _ c.1.1.1.0))) x.1)
+  pub commit_holds : (e : Entry) → LegalCommit layout past e → (key : ℕ) → writes_key e key ≡ true
+      → MayWrite (entries past) (placing layout past (part_of layout key)) e.origin key (at e.begin)
+  commit_holds e legal key w =
+      subst (λ (v : List ℕ). MayWrite (entries past) (placing layout past (part_of layout key)) e.origin key (at v)) (sym legal.began)
+      (s.running e.origin e.txn legal.runs key (commit_keys e legal key w))
 
   -- the floor as an entry comes
 
@@ -197,94 +192,79 @@ module _ (layout : Layout) (past : List Step) (n : SoundPast layout past) (seat 
     | inr m ↦ (let a = floor_same e i j m in let b = s.floored i j in let c = reached_grows e i j in omega arith)
   ]
 
-  pub mastered_commit : (e : Entry) → Allowed layout past (Commit e) → MasteredPast layout (Commit e ∷ past)
+  mastered_commit : (e : Entry) → Allowed layout past (Commit e) → MasteredPast layout (Commit e ∷ past)
   mastered_commit e h =
-      let c = all_hold (holds _ why.Shape ∷ clauses layout past (Commit e)) h in
-      let f = commit_says layout past n e c.1 in
-      let shape = and_parts (is_site layout e.origin) _ (and_parts (is_txn layout e.txn) _ (holds_true _ _ c.0)).1 in
-      let range = and_parts (nat_le 1 e.origin) (nat_le e.origin layout.sites) shape.0 in
-      let up = n.up e.origin e.txn f.0 in
-      let one = leb-true 1 e.origin range.0 in
-      let top = leb-true e.origin layout.sites range.1 in
-      let long = f.2.long in
-      mastered.entered _ _ _ _ _ _ _ _ _ _ s e (λ i j. reached i j (Commit e ∷ past)) (floor_at layout (Commit e ∷ past)) (λ i t. runs i t (Commit e ∷ past)) (λ i. is_down i past) (λ i. pending_at i past)
-      (commit_holds e c.1)
-      (commit_floored e one (omega arith) f.1 f.2) (floor_grows e) (λ j. floor_takes e j long) (λ i j m. floor_same e i j m)
-      (λ k u r. (went_on (same_txn u e.txn) _ r).1)
+      let legal = legal_commit layout past e h in
+      let up = n.up e.origin e.txn legal.runs in
+      let one = legal.origin.one in
+      let top = legal.origin.top in
+      let within = commit_within layout past n e legal in
+      let long = within.long in
+      mastered.entered (part_of layout) (mastery layout past) s (mastery layout (Commit e ∷ past)) e
+      (commit_holds e legal)
+      (commit_floored e one (omega arith) legal.seq within) (floor_grows e) (λ j. floor_takes e j long) (λ i j m. floor_same e i j m)
+      (λ k u r. (went_on (same_txn u e.txn) _ r).before)
       (λ u r key m w. (let x = went_on (same_txn u e.txn) _ r in
-      false≢true (sym x.0 ∙ ap (λ (y : TxnId). same_txn u y) (sym (s.apart e.origin u e.txn x.1 f.0 key m (commit_keys e c.1 key w))) ∙ txn_own u)))
-      (λ k d. ((λ p. false≢true (sym up ∙ ap (λ (x : ℕ). is_down x past) (sym p) ∙ d)), d, refl))
+      false≢true (sym x.test ∙ ap (λ (y : TxnId). same_txn u y) (sym (s.apart e.origin u e.txn x.before legal.runs key m (commit_keys e legal key w))) ∙ txn_own u)))
+      (λ k d. record { other = λ p. false≢true (sym up ∙ ap (λ (x : ℕ). is_down x past) (sym p) ∙ d); still = refl; same = refl })
 
   -- the vector of a site is at least its floor
   pub floor_below_vector : (i j : ℕ) → floor_at layout past i j ≤ at (site_vector layout.sites past i) j
   floor_below_vector i j = at_by_within layout.sites _ (λ j. reached i j past) (λ k. s.floored i k) j
 
-  pub mastered_begin : (site : ℕ) (txn : TxnId) (begin : List ℕ) → Allowed layout past (Begin site txn begin) → MasteredPast layout (Begin site txn begin ∷ past)
-  mastered_begin site txn begin h =
-      let c = all_hold (holds _ why.Shape ∷ clauses layout past (Begin site txn begin)) h in
-      let v = numbers_same begin (site_vector layout.sites past site) (holds_true _ _ c.1.1.1.1.1.0) in
-      mastered.begun _ _ _ _ _ _ _ _ _ _ s site txn begin (λ i t. runs i t (Begin site txn begin ∷ past)) (λ t. begin_vector t (Begin site txn begin ∷ past))
-      (λ key m. masters_of_may_begin (placing layout past (part_of layout key)) site
-      (each_among (λ k. may_begin_now (placing layout past (part_of layout k)) site ≡ true) (declared txn past) key
-      (each_map (λ k. not (may_begin_now (placing layout past (part_of layout k)) site) ≡ false) (λ k. may_begin_now (placing layout past (part_of layout k)) site ≡ true) (λ k q. not_false _ q) (declared txn past)
-      (each_unmap (λ p. not (may_begin_now (placing layout past p) site) ≡ false) (part_of layout) (declared txn past) (find_none (λ p. not (may_begin_now (placing layout past p) site)) (parts_in_order layout (declared txn past)) (map_none _ _ c.1.1.1.1.0)))) m))
-      (λ j. subst (λ (x : List ℕ). floor_at layout past site j ≤ at x j) (sym v) (floor_below_vector site j))
-      (λ u r key m k. no_common (declared txn past) (declared u past)
-      (each_running (λ t. _) site past u (no_holder past (declared txn past) (running site past) (map_none _ _ c.1.1.1.1.1.1.1.0)) r) key m k)
-      (λ i t r. elim (ran (same_txn t txn) (site == i) _ r) [
-        | inl p ↦ inl (txn_same t txn p.0, sym (eqb-true site i p.1))
-        | inr q ↦ inr (q.1, passed (same_txn t txn) begin _ q.0)
-      ])
-      (taken (same_txn txn txn) begin _ (txn_own txn))
+  pub floor_below : (site : ℕ) (vector : List ℕ) → vector ≡ site_vector layout.sites past site → (j : ℕ) → floor_at layout past site j ≤ at vector j
+  floor_below site vector v j = subst (λ (x : List ℕ). floor_at layout past site j ≤ at x j) (sym v) (floor_below_vector site j)
+
+  -- a site that may begin on all the keys' partitions masters them
+  begin_masters : (site : ℕ) (keys : List ℕ) → elsewhere layout past site keys ≡ None → (key : ℕ) → is_among keys key ≡ true
+      → masters_now (placing layout past (part_of layout key)) site ≡ true
+  begin_masters site keys here key m =
+      let away : ℕ → Bool = λ p. not (may_begin_now (placing layout past p) site) in
+      let none = each_unmap (λ p. away p ≡ false) (part_of layout) keys (find_none away (parts_in_order layout keys) here) in
+      masters_of_may_begin (placing layout past (part_of layout key)) site (not_false _ (each_among (λ k. away (part_of layout k) ≡ false) keys key none m))
     where
       not_false : (b : Bool) → not b ≡ false → b ≡ true
       not_false true h = refl
       not_false false h = absurd (false≢true (sym h))
 
-  -- what the clauses of a release and of a grant say
-  pub release_says : (site part epoch to : ℕ) (vector : List ℕ) → Each (λ c. c ≡ None) (release_clauses layout past site part epoch to vector)
-      → (placing layout past part ≡ Asked site epoch to) × (vector ≡ site_vector layout.sites past site) × (is_down site past ≡ false)
-      × ((u : TxnId) → runs site u past ≡ true → (key : ℕ) → is_among (declared u past) key ≡ true → part_of layout key ≡ part → ⊥)
-  release_says site part epoch to vector h =
-      let x = asked_says (placing layout past part) _ h in
-      let c = x.4 in
-      let a = eqb-true x.0 site (holds_true _ _ c.0) in
-      let b = eqb-true epoch x.1 (holds_true _ _ c.1.0) in
-      let d = eqb-true to x.2 (holds_true _ _ c.1.1.0) in
-      let none = find_none (λ t. is_among (parts_in_order layout (declared t past)) part) (running site past) (map_none _ _ c.1.1.1.1.0) in (
-        x.3 ∙ (λ i. Asked (a i) (sym b i) (sym d i)),
-        numbers_same vector (site_vector layout.sites past site) (holds_true _ _ c.1.1.1.1.1.0),
-        not-true (is_down site past) (holds_true _ _ c.1.1.1.0),
-        (λ u r key m e. false≢true (sym (each_running (λ t. is_among (parts_in_order layout (declared t past)) part ≡ false) site past u none r)
-            ∙ subst (λ (p : ℕ). is_among (parts_in_order layout (declared u past)) p ≡ true) e (among_map (part_of layout) (declared u past) key m))),
-      )
+  mastered_begin : (site : ℕ) (txn : TxnId) (begin : List ℕ) → Allowed layout past (Begin site txn begin) → MasteredPast layout (Begin site txn begin ∷ past)
+  mastered_begin site txn begin h =
+      let legal = legal_begin layout past site txn begin h in
+      mastered.begun (part_of layout) (mastery layout past) s (mastery layout (Begin site txn begin ∷ past)) site txn begin
+      (begin_masters site (declared txn past) legal.here)
+      (floor_below site begin legal.at_vector)
+      (λ u r key m k. no_common (declared txn past) (declared u past)
+      (each_running (λ t. _) site past u (no_holder past (declared txn past) (running site past) legal.unheld) r) key m k)
+      (λ i t r. elim (ran (same_txn t txn) (site == i) _ r) [
+        | inl p ↦ inl (txn_same t txn p.test, sym (eqb-true site i p.now))
+        | inr q ↦ inr (q.before, passed (same_txn t txn) begin _ q.test)
+      ])
+      (taken (same_txn txn txn) begin _ (txn_own txn))
 
-  pub grant_says : (site part epoch : ℕ) (vector : List ℕ) → length vector ≡ layout.sites → Each (λ c. c ≡ None) (grant_clauses layout past site part epoch vector)
-      → (a : ℕ) × (b : ℕ) × (placing layout past part ≡ Between a b site vector) × ((j : ℕ) → at vector j ≤ reached site j past) × (is_down site past ≡ false) × (epoch ≡ suc b)
-  grant_says site part epoch vector long h =
-      let x = between_says (placing layout past part) _ h in
-      let c = x.5 in
-      let a = eqb-true x.2 site (holds_true _ _ c.0) in
-      let v = numbers_same vector x.3 (holds_true _ _ c.1.1.0) in (
-        x.0,
-        x.1,
-        x.4 ∙ (λ i. Between x.0 x.1 (a i) (sym v i)),
-        (λ j. (let y = at_most layout.sites vector (site_vector layout.sites past site) long (map_none _ _ c.1.1.1.1.0) j in let z = at_by_below layout.sites (λ j. reached site j past) j in omega arith)),
-        not-true (is_down site past) (holds_true _ _ c.1.1.1.0),
-        (let e = eqb-true epoch (x.1 + 1) (holds_true _ _ c.1.0) in omega arith),
-      )
+  -- nothing runs on a partition that is released
+  pub release_free : (site part epoch to : ℕ) (vector : List ℕ) → LegalRelease layout past site part epoch to vector
+      → (u : TxnId) → runs site u past ≡ true → (key : ℕ) → is_among (declared u past) key ≡ true → part_of layout key ≡ part → ⊥
+  release_free site part epoch to vector legal u r key m e =
+      let none = find_none (λ t. is_among (parts_in_order layout (declared t past)) part) (running site past) legal.unused in
+      false≢true (sym (each_running (λ t. is_among (parts_in_order layout (declared t past)) part ≡ false) site past u none r)
+      ∙ subst (λ (p : ℕ). is_among (parts_in_order layout (declared u past)) p ≡ true) e (among_map (part_of layout) (declared u past) key m))
 
-  pub floor_below : (site : ℕ) (vector : List ℕ) → vector ≡ site_vector layout.sites past site → (j : ℕ) → floor_at layout past site j ≤ at vector j
-  floor_below site vector v j = subst (λ (x : List ℕ). floor_at layout past site j ≤ at x j) (sym v) (floor_below_vector site j)
+  -- a grant's vector is at most what the site has
+  grant_reached : (site part epoch : ℕ) (vector : List ℕ) → LegalGrant layout past site part epoch vector → (j : ℕ) → at vector j ≤ reached site j past
+  grant_reached site part epoch vector legal j =
+      let y = at_most layout.sites vector (site_vector layout.sites past site) legal.long legal.not_ahead j in
+      let z = at_by_below layout.sites (λ j. reached site j past) j in
+      omega arith
 
-  pub mastered_release : (site part epoch to : ℕ) (vector : List ℕ) → Allowed layout past (Release site part epoch to vector) → MasteredPast layout (Release site part epoch to vector ∷ past)
+  mastered_release : (site part epoch to : ℕ) (vector : List ℕ) → Allowed layout past (Release site part epoch to vector)
+      → MasteredPast layout (Release site part epoch to vector ∷ past)
   mastered_release site part epoch to vector h =
-      let c = all_hold (holds _ why.Shape ∷ clauses layout past (Release site part epoch to vector)) h in
-      let f = release_says site part epoch to vector c.1 in
-      mastered.released _ _ _ _ _ _ _ _ _ _ s site part epoch to epoch to vector (λ i j. reached i j past) (λ i t. runs i t past) (placing layout (Release site part epoch to vector ∷ past)) (λ i. is_down i past) (λ i. pending_at i past)
-      f.0 (floor_below site vector f.1) (cond-true (part == part) _ _ (eq-eqb part part refl)) (λ q m. cond-false (part == q) _ _ (ne_eqb part q (λ p. m (sym p))))
-      s.floored (λ k u r. r) f.3
-      (λ k d. ((λ p. false≢true (sym f.2 ∙ ap (λ (x : ℕ). is_down x past) (sym p) ∙ d)), d, refl))
+      let legal = legal_release layout past site part epoch to vector h in
+      mastered.released (part_of layout) (mastery layout past) s (mastery layout (Release site part epoch to vector ∷ past)) site part epoch to vector
+      legal.asked (floor_below site vector legal.at_vector) (cond-true (part == part) _ _ (eq-eqb part part refl))
+      (λ q m. cond-false (part == q) _ _ (ne_eqb part q (λ p. m (sym p))))
+      s.floored (λ k u r. r) (release_free site part epoch to vector legal)
+      (λ k d. record { other = λ p. false≢true (sym legal.up ∙ ap (λ (x : ℕ). is_down x past) (sym p) ∙ d); still = refl; same = refl })
 
   -- the floor stays below what the sites have, as a grant comes
   grant_floored : (site part epoch : ℕ) (v : List ℕ) (got : ℕ → ℕ → ℕ) → ((i j : ℕ) → i ≢ site → floor_at layout past i j ≤ got i j) → ((j : ℕ) → floor_at layout past site j ≤ got site j) → ((j : ℕ) → at v j ≤ got site j)
@@ -297,27 +277,19 @@ module _ (layout : Layout) (past : List Step) (n : SoundPast layout past) (seat 
     | inr m ↦ (let a = grant_same site part epoch v i j m in let b = le i j m in omega arith)
   ]
 
-  pub mastered_grant : (site part epoch : ℕ) (vector : List ℕ) → Allowed layout past (Grant site part epoch vector) → MasteredPast layout (Grant site part epoch vector ∷ past)
+  mastered_grant : (site part epoch : ℕ) (vector : List ℕ) → Allowed layout past (Grant site part epoch vector) → MasteredPast layout (Grant site part epoch vector ∷ past)
   mastered_grant site part epoch vector h =
-      let c = all_hold (holds _ why.Shape ∷ clauses layout past (Grant site part epoch vector)) h in
-      let shape = and_parts (is_site layout site) _ (holds_true _ _ c.0) in
-      let long = eqb-true (length vector) layout.sites (and_parts _ (length vector == layout.sites) shape.1).1 in
-      let f = grant_says site part epoch vector long c.1 in
-      mastered.granted _ _ _ _ _ _ _ _ _ _ s site part epoch f.0 f.1 vector (λ i j. reached i j past) (floor_at layout (Grant site part epoch vector ∷ past)) (λ i t. runs i t past) (placing layout (Grant site part epoch vector ∷ past)) (λ i. is_down i past) (λ i. pending_at i past)
-      f.2 (cond-true (part == part) _ _ (eq-eqb part part refl)) (λ q m. cond-false (part == q) _ _ (ne_eqb part q (λ p. m (sym p))))
-      (grant_floored site part epoch vector (λ i j. reached i j past) (λ i j m. s.floored i j) (λ j. s.floored site j) f.3)
-      (grant_grows site part epoch vector) (λ j. grant_takes site part epoch vector j long) (λ k j m. grant_same site part epoch vector k j m)
+      let legal = legal_grant layout past site part epoch vector h in
+      mastered.granted (part_of layout) (mastery layout past) s (mastery layout (Grant site part epoch vector ∷ past)) site part epoch legal.from legal.old vector
+      legal.between (cond-true (part == part) _ _ (eq-eqb part part refl)) (λ q m. cond-false (part == q) _ _ (ne_eqb part q (λ p. m (sym p))))
+      (grant_floored site part epoch vector (λ i j. reached i j past) (λ i j m. s.floored i j) (λ j. s.floored site j) (grant_reached site part epoch vector legal))
+      (grant_grows site part epoch vector) (λ j. grant_takes site part epoch vector j legal.long) (λ k j m. grant_same site part epoch vector k j m)
       (λ k u r. r)
-      (λ k d. ((λ p. false≢true (sym f.4 ∙ ap (λ (x : ℕ). is_down x past) (sym p) ∙ d)), d, refl))
+      (λ k d. record { other = λ p. false≢true (sym legal.up ∙ ap (λ (x : ℕ). is_down x past) (sym p) ∙ d); still = refl; same = refl })
 
-  pub mastered_doubt : (site : ℕ) (p : Pending) → Held (part_of layout) (entries past) (floor_at layout past site) (placing layout past) site (Some p) → MasteredPast layout (Doubt site p ∷ past)
+  mastered_doubt : (site : ℕ) (p : Pending) → Held (part_of layout) (mastery layout past) site (Some p) → MasteredPast layout (Doubt site p ∷ past)
   mastered_doubt site p d =
-      mastered.doubted _ _ _ _ _ _ _ _ _ _ s site p (λ i t. runs i t (Doubt site p ∷ past)) (λ i. is_down i (Doubt site p ∷ past)) (λ i. pending_at i (Doubt site p ∷ past)) d
-      (λ k u r. elim (ran (site == k) false _ r) [ inl q ↦ absurd (false≢true q.1) | inr q ↦ (q.1, λ e. eqb-false site k q.0 (sym e)) ])
-      (λ k. elim (cases_Bool (site == k)) [
-        | inl q ↦ inl (sym (eqb-true site k q), taken (site == k) p _ q)
-        | inr q ↦ inr ((λ e. eqb-false site k q (sym e)), ap (λ (o : Option Bool). unwrap_or o false) (passed (site == k) true _ q), passed (site == k) p _ q)
-      ])
+      mastered.doubted (part_of layout) (mastery layout past) s (mastery layout (Doubt site p ∷ past)) site p d (doubt_stops past site p) (doubt_waits past site p)
 
   refresh_grows : (b x : Bool) (a k m : ℕ) → cond b a (k + m) ≤ cond b a (k + cond x (suc m) m)
   refresh_grows true x a k m = omega arith
@@ -327,9 +299,9 @@ module _ (layout : Layout) (past : List Step) (n : SoundPast layout past) (seat 
   route_keeps : (txn : TxnId) (want : Want) (min : List ℕ) (site : ℕ) (choice : Choice) → Allowed layout past (Route txn want min site choice) → (i : ℕ) (t : TxnId) → runs i t past ≡ true
       → declared t (Route txn want min site choice ∷ past) ≡ declared t past
   route_keeps txn want min site choice h i t r =
-      let c = all_hold (holds _ why.Shape ∷ clauses layout past (Route txn want min site choice)) h in
+      let legal = legal_route layout past txn want min site choice h in
       let other : same_txn t txn ≡ false = false_from_ne_true (same_txn t txn) (λ e.
-      false≢true (subst (λ (x : AttemptState). may_route x ≡ true) (ap (λ (u : TxnId). state u.session past) (sym (txn_same t txn e)) ∙ (seat i t r).runs) (holds_true _ _ c.1.1.0))) in
+      false≢true (subst (λ (x : AttemptState). may_route x ≡ true) (ap (λ (u : TxnId). state u.session past) (sym (txn_same t txn e)) ∙ (seat i t r).runs) legal.further)) in
       ap (λ (o : Option Routing). unwrap_or (option_map (λ r. wanted_keys r.want) o) []) (passed (same_txn t txn) _ _ other)
 
   -- what a site has after a Restart, where the entries are these
@@ -360,86 +332,90 @@ module _ (layout : Layout) (past : List Step) (n : SoundPast layout past) (seat 
   ]
 
   stops : (site : ℕ) (vector : List ℕ) (found : Found) (k : ℕ) (u : TxnId) → runs k u (Restart site vector found ∷ past) ≡ true → (site ≢ k) × (runs k u past ≡ true)
-  stops site vector found k u r = elim (ran (site == k) false _ r) [ inl q ↦ absurd (false≢true q.1) | inr q ↦ (eqb-false site k q.0, q.1) ]
+  stops site vector found k u r = elim (ran (site == k) false _ r) [ inl q ↦ absurd (false≢true q.now) | inr q ↦ (eqb-false site k q.test, q.before) ]
 
   rises : (site : ℕ) (vector : List ℕ) (found : Found) (k : ℕ) → is_down k (Restart site vector found ∷ past) ≡ true → (k ≢ site) × (is_down k past ≡ true)
-  rises site vector found k r = elim (ran (site == k) false _ r) [ inl q ↦ absurd (false≢true q.1) | inr q ↦ ((λ e. eqb-false site k q.0 (sym e)), q.1) ]
+  rises site vector found k r = elim (ran (site == k) false _ r) [ inl q ↦ absurd (false≢true q.now) | inr q ↦ ((λ e. eqb-false site k q.test (sym e)), q.before) ]
 
-  -- the parts of the state after a Restart that keeps the pending step or not
-  abbrev pub kept_got : ℕ → List ℕ → Found → Option Pending → ℕ → ℕ → ℕ
-  kept_got site vector found o k j = cond (k == j) (count_at k (kept_entries layout past n site o)) (refreshed k j (Restart site vector found ∷ past))
+  -- what is down after a Restart of the site waits, also where its pending step is kept
+  waits : (site : ℕ) (vector : List ℕ) (found : Found) (at_site : ℕ) → at_site ≡ site → (k : ℕ) → is_down k (Restart site vector found ∷ past) ≡ true
+      → Waits at_site k (λ i. is_down i past) (λ i. is_down i (Restart site vector found ∷ past)) (λ i. pending_at i past) (λ i. pending_at i past)
+  waits site vector found at_site e k r =
+      let x = rises site vector found k r in
+      record { other = λ p. x.0 (p ∙ e); still = r ∙ sym x.1; same = refl }
 
-  abbrev pub kept_floor : ℕ → Option Pending → ℕ → ℕ → ℕ
-  kept_floor site o k j = at (join_all layout.sites (filter_map (floor_vector k) (option_to_list (option_map (step_of site) o) ++ acts past))) j
+  -- what is mastered after a Restart that keeps the pending step or not
+  abbrev pub kept_mastery : ℕ → List ℕ → Found → Option Pending → Mastery
+  kept_mastery site vector found o = record {
+    entries = kept_entries layout past n site o;
+    reached = λ k j. cond (k == j) (count_at k (kept_entries layout past n site o)) (refreshed k j (Restart site vector found ∷ past));
+    floor = λ k j. at (join_all layout.sites (filter_map (floor_vector k) (option_to_list (option_map (step_of site) o) ++ acts past))) j;
+    runs = λ i t. runs i t (Restart site vector found ∷ past);
+    begins = λ t. begin_vector t past;
+    declared = λ t. declared t past;
+    placing = λ q. after_acts q (option_to_list (option_map (step_of site) o)) (placing layout past q);
+    down = λ i. is_down i (Restart site vector found ∷ past);
+    doubt = λ i. pending_at i past;
+  }
 
-  abbrev pub kept_place : ℕ → Option Pending → ℕ → Placing
-  kept_place site o q = after_acts q (option_to_list (option_map (step_of site) o)) (placing layout past q)
+  -- the floor is at most the vector to which the site is set
+  set_floor : (site : ℕ) (vector : List ℕ) (kept : List Step) → MaySet layout past site vector kept → (j : ℕ) → at (floor layout.sites kept site) j ≤ at vector j
+  set_floor site vector kept set = at_most layout.sites (floor layout.sites kept site) vector (long_by layout.sites _) set.not_behind
 
-  mastered_kept : (site : ℕ) (vector : List ℕ) (found : Found) (o : Option Pending) → sound.InDoubt layout.sites (entries past) (λ j. reached site j past) site o
-      → Held (part_of layout) (entries past) (floor_at layout past site) (placing layout past) site o
-      → Each (λ c. c ≡ None) (vector_clauses layout past site vector (kept_past layout past n site o))
-      → mastered.Mastered (part_of layout) (kept_entries layout past n site o) (kept_got site vector found o) (kept_floor site o) (λ i t. runs i t (Restart site vector found ∷ past)) (λ t. begin_vector t past) (λ t. declared t past)
-      (kept_place site o) (λ i. is_down i (Restart site vector found ∷ past)) (λ i. pending_at i past)
-  mastered_kept site vector found None d d' c =
-      let m = eqb-true (at vector site) (entry_count site past) (holds_true _ _ c.0) in
-      let le = at_most layout.sites (floor layout.sites past site) vector (long_by layout.sites _) (map_none _ _ c.1.0) in
-      mastered.eased _ _ _ _ _ _ _ _ _ _ s (kept_got site vector found None) (λ i t. runs i t (Restart site vector found ∷ past)) (λ t. declared t past) (λ i. is_down i (Restart site vector found ∷ past))
-      (restart_floored site vector found (entries past) (floor_at layout past) m le (λ k j q. refl) (λ k. omega arith))
+  mastered_kept : (site : ℕ) (vector : List ℕ) (found : Found) (o : Option Pending) → InDoubt layout.sites (counts past) site o → Held (part_of layout) (mastery layout past) site o
+      → MaySet layout past site vector (kept_past layout past n site o) → Mastered (part_of layout) (kept_mastery site vector found o)
+  mastered_kept site vector found None d held set =
+      mastered.eased (part_of layout) (mastery layout past) s (kept_mastery site vector found None)
+      (restart_floored site vector found (entries past) (floor_at layout past) set.own (set_floor site vector past set) (λ k j q. refl) (λ k. omega arith))
       (λ i t r. ((stops site vector found i t r).1, refl)) (λ i r. (rises site vector found i r).1)
-  mastered_kept site vector found (Some (pending.Commit e)) d d' c =
-      let m = eqb-true (at vector site) (entry_count site (Commit e ∷ past)) (holds_true _ _ c.0) in
-      let le = at_most layout.sites (floor layout.sites (Commit e ∷ past) site) vector (long_by layout.sites _) (map_none _ _ c.1.0) in
-      let long = d.2.long in
-      mastered.entered _ _ _ _ _ _ _ _ _ _ s e (kept_got site vector found (Some (pending.Commit e))) (floor_at layout (Commit e ∷ past)) (λ i t. runs i t (Restart site vector found ∷ past)) (λ i. is_down i (Restart site vector found ∷ past)) (λ i. pending_at i past)
-      (λ key w. (let x = d' key w in (subst (λ (i : ℕ). masters_now (placing layout past (part_of layout key)) i ≡ true) (sym d.0) x.0, x.1)))
-      (restart_floored site vector found (e ∷ entries past) (floor_at layout (Commit e ∷ past)) m le (λ k j q. floor_same e k j (λ p. q (p ∙ d.0))) (λ k. count_more e (entries past) k))
+  mastered_kept site vector found (Some (pending.Commit e)) d held set =
+      let long = d.within.long in
+      mastered.entered (part_of layout) (mastery layout past) s (kept_mastery site vector found (Some (pending.Commit e))) e
+      (λ key w. subst (λ (i : ℕ). MayWrite (entries past) (placing layout past (part_of layout key)) i key (at e.begin)) (sym d.own) (held key w))
+      (restart_floored site vector found (e ∷ entries past) (floor_at layout (Commit e ∷ past)) set.own (set_floor site vector (Commit e ∷ past) set)
+      (λ k j q. floor_same e k j (λ p. q (p ∙ d.own))) (λ k. count_more e (entries past) k))
       (floor_grows e) (λ j. floor_takes e j long) (λ i j q. floor_same e i j q)
       (λ k u r. (stops site vector found k u r).1)
-      (λ u r key a w. (stops site vector found e.origin u r).0 (sym d.0))
-      (λ k r. (let x = rises site vector found k r in ((λ p. x.0 (p ∙ d.0)), x.1, refl)))
-  mastered_kept site vector found (Some (pending.Release part epoch to v)) d d' c =
-      let m = eqb-true (at vector site) (entry_count site past) (holds_true _ _ c.0) in
-      let le = at_most layout.sites (floor layout.sites past site) vector (long_by layout.sites _) (map_none _ _ c.1.0) in
-      mastered.released _ _ _ _ _ _ _ _ _ _ s site part epoch to epoch to v (kept_got site vector found (Some (pending.Release part epoch to v))) (λ i t. runs i t (Restart site vector found ∷ past))
-      (kept_place site (Some (pending.Release part epoch to v))) (λ i. is_down i (Restart site vector found ∷ past)) (λ i. pending_at i past)
-      d'.0 d'.1 (cond-true (part == part) _ _ (eq-eqb part part refl)) (λ q x. cond-false (part == q) _ _ (ne_eqb part q (λ p. x (sym p))))
-      (restart_floored site vector found (entries past) (floor_at layout past) m le (λ k j q. refl) (λ k. omega arith))
+      (λ u r key a w. (stops site vector found e.origin u r).0 (sym d.own))
+      (waits site vector found e.origin d.own)
+  mastered_kept site vector found (Some (pending.Release part epoch to v)) d held set =
+      mastered.released (part_of layout) (mastery layout past) s (kept_mastery site vector found (Some (pending.Release part epoch to v))) site part epoch to v
+      held.asked held.above (cond-true (part == part) _ _ (eq-eqb part part refl)) (λ q x. cond-false (part == q) _ _ (ne_eqb part q (λ p. x (sym p))))
+      (restart_floored site vector found (entries past) (floor_at layout past) set.own (set_floor site vector (Release site part epoch to v ∷ past) set)
+      (λ k j q. refl) (λ k. omega arith))
       (λ k u r. (stops site vector found k u r).1)
       (λ u r key a w. (stops site vector found site u r).0 refl)
-      (λ k r. (let x = rises site vector found k r in (x.0, x.1, refl)))
-  mastered_kept site vector found (Some (pending.Grant part epoch v)) d d' c =
-      let m = eqb-true (at vector site) (entry_count site past) (holds_true _ _ c.0) in
-      let le = at_most layout.sites (floor layout.sites (Grant site part epoch v ∷ past) site) vector (long_by layout.sites _) (map_none _ _ c.1.0) in
-      mastered.granted _ _ _ _ _ _ _ _ _ _ s site part epoch d'.0 d'.1 v (kept_got site vector found (Some (pending.Grant part epoch v))) (floor_at layout (Grant site part epoch v ∷ past)) (λ i t. runs i t (Restart site vector found ∷ past))
-      (kept_place site (Some (pending.Grant part epoch v))) (λ i. is_down i (Restart site vector found ∷ past)) (λ i. pending_at i past)
-      d'.2 (cond-true (part == part) _ _ (eq-eqb part part refl)) (λ q x. cond-false (part == q) _ _ (ne_eqb part q (λ p. x (sym p))))
-      (restart_floored site vector found (entries past) (floor_at layout (Grant site part epoch v ∷ past)) m le (λ k j q. grant_same site part epoch v k j q) (λ k. omega arith))
+      (waits site vector found site refl)
+  mastered_kept site vector found (Some (pending.Grant part epoch v)) d held set =
+      mastered.granted (part_of layout) (mastery layout past) s (kept_mastery site vector found (Some (pending.Grant part epoch v))) site part epoch held.from held.old v
+      held.between (cond-true (part == part) _ _ (eq-eqb part part refl)) (λ q x. cond-false (part == q) _ _ (ne_eqb part q (λ p. x (sym p))))
+      (restart_floored site vector found (entries past) (floor_at layout (Grant site part epoch v ∷ past)) set.own (set_floor site vector (Grant site part epoch v ∷ past) set)
+      (λ k j q. grant_same site part epoch v k j q) (λ k. omega arith))
       (grant_grows site part epoch v) (λ j. grant_takes site part epoch v j d) (λ k j q. grant_same site part epoch v k j q)
       (λ k u r. (stops site vector found k u r).1)
-      (λ k r. (let x = rises site vector found k r in (x.0, x.1, refl)))
+      (waits site vector found site refl)
 
-  pub mastered_restart : (site : ℕ) (vector : List ℕ) (found : Found) → Allowed layout past (Restart site vector found) → MasteredPast layout (Restart site vector found ∷ past)
-  mastered_restart site vector found h =
-      let c = all_hold (holds _ why.Shape ∷ clauses layout past (Restart site vector found)) h in
-      by_found found (holds_true _ _ c.1.0) c.1.1
+  mastered_restart : (site : ℕ) (vector : List ℕ) (found : Found) → Allowed layout past (Restart site vector found) → MasteredPast layout (Restart site vector found ∷ past)
+  mastered_restart site vector found h = (let legal = legal_restart layout past site vector found h in by_found found legal.fits legal.may_set)
     where
-      by_found : (found : Found) → found_fits found (is_down site past) ≡ true → Each (λ c. c ≡ None) (vector_clauses layout past site vector (with_kept site found past)) → MasteredPast layout (Restart site vector found ∷ past)
-      by_found Clean f c = mastered_kept site vector Clean None tt tt c
-      by_found Lost f c = mastered_kept site vector Lost None tt tt c
-      by_found Kept f c = mastered_kept site vector Kept (pending_at site past) (n.in_doubt site f) (s.held site f) c
+      by_found : (found : Found) → found_fits found (is_down site past) ≡ true → MaySet layout past site vector (with_kept site found past)
+          → MasteredPast layout (Restart site vector found ∷ past)
+      by_found Clean fits set = mastered_kept site vector Clean None tt tt set
+      by_found Lost fits set = mastered_kept site vector Lost None tt tt set
+      by_found Kept fits set = mastered_kept site vector Kept (pending_at site past) (n.in_doubt site fits) (s.held site fits) set
 
 pub mastered_step : (layout : Layout) (past : List Step) (s : Step) → SoundPast layout past → Seated past → MasteredPast layout past → Allowed layout past s → MasteredPast layout (s ∷ past)
 mastered_step layout past (Route txn want min site choice) n seat s h =
-    mastered.eased _ _ _ _ _ _ _ _ _ _ s (λ i j. reached i j past) (λ i t. runs i t past) (λ t. declared t (Route txn want min site choice ∷ past)) (λ i. is_down i past)
+    mastered.eased (part_of layout) (mastery layout past) s (mastery layout (Route txn want min site choice ∷ past))
     s.floored (λ i t r. (r, route_keeps layout past n seat s txn want min site choice h i t r)) (λ i d. d)
 mastered_step layout past (Ask part epoch to txn) n seat s h =
-    mastered.replaced _ _ _ _ _ _ _ _ _ _ s (placing layout (Ask part epoch to txn ∷ past))
+    mastered.replaced (part_of layout) (mastery layout past) s (mastery layout (Ask part epoch to txn ∷ past))
     (λ q k. choose_placing (λ x p. masters_now x k ≡ masters_now p k) (λ p. asked p to) (part == q) (placing layout past q) (asked_masters (placing layout past q) to k) refl)
     (λ q x y z v. choose_placing (λ w p. w ≡ Between x y z v → p ≡ Between x y z v) (λ p. asked p to) (part == q) (placing layout past q) (asked_between (placing layout past q) to x y z v) (λ h. h))
     (λ q x y z v. choose_placing (λ w p. p ≡ Between x y z v → w ≡ Between x y z v) (λ p. asked p to) (part == q) (placing layout past q) (λ h. ap (λ (p : Placing). asked p to) h) (λ h. h))
     (λ q x y z. choose_placing (λ w p. p ≡ Asked x y z → w ≡ Asked x y z) (λ p. asked p to) (part == q) (placing layout past q) (λ h. ap (λ (p : Placing). asked p to) h) (λ h. h))
 mastered_step layout past (Settle part epoch) n seat s h =
-    mastered.replaced _ _ _ _ _ _ _ _ _ _ s (placing layout (Settle part epoch ∷ past))
+    mastered.replaced (part_of layout) (mastery layout past) s (mastery layout (Settle part epoch ∷ past))
     (λ q k. choose_placing (λ x p. masters_now x k ≡ masters_now p k) settled (part == q) (placing layout past q) (settled_masters (placing layout past q) k) refl)
     (λ q x y z v. choose_placing (λ w p. w ≡ Between x y z v → p ≡ Between x y z v) settled (part == q) (placing layout past q) (settled_between (placing layout past q) x y z v) (λ h. h))
     (λ q x y z v. choose_placing (λ w p. p ≡ Between x y z v → w ≡ Between x y z v) settled (part == q) (placing layout past q) (λ h. ap settled h) (λ h. h))
@@ -447,30 +423,28 @@ mastered_step layout past (Settle part epoch) n seat s h =
 mastered_step layout past (Begin site txn begin) n seat s h = mastered_begin layout past n seat s site txn begin h
 mastered_step layout past (Commit e) n seat s h = mastered_commit layout past n seat s e h
 mastered_step layout past (End site txn ops reads) n seat s h =
-    mastered.eased _ _ _ _ _ _ _ _ _ _ s (λ i j. reached i j past) (λ i t. runs i t (End site txn ops reads ∷ past)) (λ t. declared t past) (λ i. is_down i past)
-    s.floored (λ i t r. ((went_on (same_txn t txn) _ r).1, refl)) (λ i d. d)
+    mastered.eased (part_of layout) (mastery layout past) s (mastery layout (End site txn ops reads ∷ past))
+    s.floored (λ i t r. ((went_on (same_txn t txn) _ r).before, refl)) (λ i d. d)
 mastered_step layout past (Fail site txn cause) n seat s h =
-    mastered.eased _ _ _ _ _ _ _ _ _ _ s (λ i j. reached i j past) (λ i t. runs i t (Fail site txn cause ∷ past)) (λ t. declared t past) (λ i. is_down i past)
-    s.floored (λ i t r. ((went_on (same_txn t txn) _ r).1, refl)) (λ i d. d)
+    mastered.eased (part_of layout) (mastery layout past) s (mastery layout (Fail site txn cause ∷ past))
+    s.floored (λ i t r. ((went_on (same_txn t txn) _ r).before, refl)) (λ i d. d)
 mastered_step layout past (Refresh site origin) n seat s h =
-    mastered.eased _ _ _ _ _ _ _ _ _ _ s (λ i j. reached i j (Refresh site origin ∷ past)) (λ i t. runs i t past) (λ t. declared t past) (λ i. is_down i past)
+    mastered.eased (part_of layout) (mastery layout past) s (mastery layout (Refresh site origin ∷ past))
     (λ i j. (let a = s.floored i j in let b = refresh_grows layout past n seat s (i == j) ((site == i) && (origin == j)) (entry_count i past) _ _ in le_trans a b)) (λ i t r. (r, refl)) (λ i d. d)
 mastered_step layout past (Release site part epoch to vector) n seat s h = mastered_release layout past n seat s site part epoch to vector h
 mastered_step layout past (Grant site part epoch vector) n seat s h = mastered_grant layout past n seat s site part epoch vector h
 mastered_step layout past (Doubt site (pending.Commit e)) n seat s h =
-    let c = all_hold (holds _ why.Shape ∷ clauses layout past (Doubt site (pending.Commit e))) h in
-    let o = eqb-true e.origin site (and_parts _ (e.origin == site) (and_parts _ _ (holds_true _ _ c.0)).1).1 in
-    mastered_doubt layout past n seat s site (pending.Commit e) (λ key w. (let x = commit_holds layout past n seat s e c.1 key w in
-    (subst (λ (i : ℕ). masters_now (placing layout past (part_of layout key)) i ≡ true) o x.0, x.1)))
+    let legal = doubted_commit layout past site e h in
+    mastered_doubt layout past n seat s site (pending.Commit e)
+    (λ key w. subst (λ (i : ℕ). MayWrite (entries past) (placing layout past (part_of layout key)) i key (at e.begin)) legal.own (commit_holds layout past n seat s e legal.commit key w))
 mastered_step layout past (Doubt site (pending.Release part epoch to vector)) n seat s h =
-    let c = all_hold (holds _ why.Shape ∷ clauses layout past (Doubt site (pending.Release part epoch to vector))) h in
-    let f = release_says layout past n seat s site part epoch to vector c.1 in
-    mastered_doubt layout past n seat s site (pending.Release part epoch to vector) (f.0, floor_below layout past n seat s site vector f.1)
+    let legal = doubted_release layout past site part epoch to vector h in
+    mastered_doubt layout past n seat s site (pending.Release part epoch to vector)
+    (record { asked = legal.asked; above = floor_below layout past n seat s site vector legal.at_vector })
 mastered_step layout past (Doubt site (pending.Grant part epoch vector)) n seat s h =
-    let c = all_hold (holds _ why.Shape ∷ clauses layout past (Doubt site (pending.Grant part epoch vector))) h in
-    let long = eqb-true (length vector) layout.sites (and_parts _ (length vector == layout.sites) (and_parts (is_site layout site) _ (holds_true _ _ c.0)).1).1 in
-    let f = grant_says layout past n seat s site part epoch vector long c.1 in
-    mastered_doubt layout past n seat s site (pending.Grant part epoch vector) (f.0, f.1, f.2, f.5)
+    let legal = doubted_grant layout past site part epoch vector h in
+    mastered_doubt layout past n seat s site (pending.Grant part epoch vector)
+    (record { from = legal.from; old = legal.old; between = legal.between; next = legal.next })
 mastered_step layout past (Restart site vector found) n seat s h = mastered_restart layout past n seat s site vector found h
 mastered_step layout past other n seat s h = s
 

@@ -14,10 +14,15 @@ use Rattle.dm_model.specs.Words.{count_of}
 abbrev pub count_at : ℕ → List Entry → ℕ
 count_at j es = count_of (λ e. e.origin == j) es
 
--- each entry has the next number of its origin, and began with all of that origin before it
+-- the entry has the next number of its origin, and began with all of that origin before it
+pub record IsNext (es : List Entry) (e : Entry) : Type 0 where
+  pub seq : e.seq ≡ suc (count_at e.origin es)
+  pub before : at e.begin e.origin < e.seq
+
+-- each entry is the next one of its origin
 abbrev pub Numbered : List Entry → Type 0
 Numbered [] = Unit {0}
-Numbered (e ∷ es) = (e.seq ≡ suc (count_at e.origin es)) × (at e.begin e.origin < e.seq) × Numbered es
+Numbered (e ∷ es) = IsNext es e × Numbered es
 
 -- the numbers are at most the counts, and each entry inside them began at numbers at most them
 pub record ClosedBy (es : List Entry) (f : ℕ → ℕ) : Type 0 where
@@ -38,15 +43,15 @@ count_other e es j h = cond-false (e.origin == j) _ _ (ne_eqb e.origin j h)
 pub within_count : (es : List Entry) → Numbered es → Each (λ d. d.seq ≤ count_at d.origin es) es
 within_count [] h = tt
 within_count (e ∷ es) h = (
-  (let c = count_own e es e.origin refl in omega (arith, h.0, c)),
-  each_map (λ d. d.seq ≤ count_at d.origin es) (λ d. d.seq ≤ count_at d.origin (e ∷ es)) (λ d k. (let c = count_more e es d.origin in omega arith)) es (within_count es h.2),
+  (let c = count_own e es e.origin refl in let n = h.0.seq in omega (arith, n, c)),
+  each_map (λ d. d.seq ≤ count_at d.origin es) (λ d. d.seq ≤ count_at d.origin (e ∷ es)) (λ d k. (let c = count_more e es d.origin in omega arith)) es (within_count es h.1),
 )
 
 -- what is closed stays closed as an entry comes
 pub closed_more : (e : Entry) (es : List Entry) (f : ℕ → ℕ) → Numbered (e ∷ es) → ClosedBy es f → ClosedBy (e ∷ es) f
 closed_more e es f h c = record {
   within = λ j. (let a = count_more e es j in let b = c.within j in omega arith);
-  begun = ((λ k. absurd (let b = c.within e.origin in omega (arith, h.0, k, b))), c.begun);
+  begun = ((λ k. absurd (let b = c.within e.origin in let n = h.0.seq in omega (arith, n, k, b))), c.begun);
 }
 
 -- more is closed, where the entries that come inside began at vectors at most it
@@ -81,7 +86,7 @@ closed_own e es f g h c own up same le =
           (λ d w k. inl (elim (cases_eq d.origin e.origin) [
             | inl p ↦ (let a = ap f p in let b = ap (λ (o : ℕ). count_at o es) p in omega arith)
             | inr n ↦ (let a = same d.origin n in omega arith)
-          ])) es (within_count es h.2),
+          ])) es (within_count es h.1),
     )
 
 -- as the next entry of another origin comes
@@ -130,7 +135,7 @@ pub record FoundAt (es : List Entry) (j n : ℕ) (e : Entry) : Type 0 where
 
 pub found_entry : (es : List Entry) (j n : ℕ) (e : Entry) → Numbered es → find (λ d. (d.origin == j) && (d.seq == n)) es ≡ Some e → FoundAt es j n e
 found_entry [] j n e h f = absurd (cc (f))
-found_entry (x ∷ es) j n e h f = at_head (λ g. found_entry es j n e h.2 g) ((x.origin == j) && (x.seq == n)) refl f
+found_entry (x ∷ es) j n e h f = at_head (λ g. found_entry es j n e h.1 g) ((x.origin == j) && (x.seq == n)) refl f
   where
     both : (p q : Bool) → p ≡ true → q ≡ true → (p && q) ≡ true
     both p q a b = rw (a, b) refl
@@ -145,11 +150,12 @@ found_entry (x ∷ es) j n e h f = at_head (λ g. found_entry es j n e h.2 g) ((
           origin = o;
           seq = s;
           within = subst (λ (i : ℕ). x.seq ≤ count_at i (x ∷ es)) o (within_count (x ∷ es) h).0;
-          own = h.1;
+          own = h.0.before;
           only = (
             (λ a b. refl),
             each_map (λ d. d.seq ≤ count_at d.origin es) (λ d. d.origin ≡ j → d.seq ≡ n → d ≡ x)
-                (λ d w a b. absurd (let c : count_at d.origin es ≡ count_at x.origin es = ap (λ (i : ℕ). count_at i es) (a ∙ sym o) in omega (arith, h.0, w, b, s, c))) es (within_count es h.2),
+                (λ d w a b. absurd (let c : count_at d.origin es ≡ count_at x.origin es = ap (λ (i : ℕ). count_at i es) (a ∙ sym o) in let k = h.0.seq in omega (arith, k, w, b, s, c)))
+                es (within_count es h.1),
           );
         })
     at_head rest false t g =

@@ -1,9 +1,9 @@
 -- In every legal past each partition has one master, and none only during its hand-over.
-use Rattle.std.proofs.Common.{ℕ, zero, suc, ◌<◌, ◌≡◌, Bool, true, false, not, ◌==◌, ◌&&◌, ◌||◌, if◌then◌else◌, List, [], ◌∷◌, ◌++◌, Option, Some, None, length, refl, sym, ap, ◌∙◌, subst, arith, inl, inr, unwrap_or}
+use Rattle.std.proofs.Common.{ℕ, zero, suc, ◌<◌, ◌≡◌, Bool, true, false, not, ◌==◌, ◌&&◌, ◌||◌, if◌then◌else◌, List, [], ◌∷◌, ◌++◌, Option, Some, None, refl, sym, ap, ◌∙◌, subst, arith, inl, inr, unwrap_or}
 use Rattle.std.proofs.lemmas.Bool.{eqb-true, eq-eqb, ne_eqb, false≢true, and_parts, and_from, or_cases, false_from_ne_true}
 use Rattle.std.specs.List.{list_any}
 use Rattle.std.specs.Prelude.{option_map, option_to_list, slice_index}
-use Rattle.dm_event.specs.Layout.{Layout, is_site}
+use Rattle.dm_event.specs.Layout.{Layout}
 use Rattle.dm_event.specs.declared.placing.Placing.{Placing}
 use Rattle.dm_event.specs.declared.placing.Placing.TheVariants.{Settled, Asked, Between, Granted}
 use Rattle.dm_event.specs.declared.step.Entry.{Entry}
@@ -12,23 +12,20 @@ use Rattle.dm_event.specs.declared.step.Pending.{Pending}
 use Rattle.dm_event.specs.declared.step.Pending.TheVariants as pending
 use Rattle.dm_event.specs.declared.step.Step.{Step}
 use Rattle.dm_event.specs.declared.step.Step.TheVariants.{Ask, Settle, Commit, Release, Grant, Restart}
-use Rattle.dm_event.specs.declared.why.Why.TheVariants as why
-use Rattle.dm_model.proofs.ClausesHold.{all_hold, holds_true}
+use Rattle.dm_model.proofs.LegalSteps.{legal_commit, legal_release, legal_grant, legal_restart}
 use Rattle.dm_model.proofs.MastershipKept.{Held}
-use Rattle.dm_model.proofs.MastershipSound.{MasteredPast, mastered_past, part_of, commit_holds, release_says, grant_says, floor_at}
+use Rattle.dm_model.proofs.MastershipSound.{MasteredPast, mastered_past, mastery, part_of, commit_holds}
 use Rattle.dm_model.proofs.NumbersKept.{InDoubt}
-use Rattle.dm_model.proofs.NumbersSound.{SoundPast, sound_past}
+use Rattle.dm_model.proofs.NumbersSound.{SoundPast, sound_past, counts}
 use Rattle.dm_model.proofs.RunningIsLast.{Seated, seated}
 use Rattle.dm_model.proofs.StepTests.{taken, passed}
-use Rattle.dm_model.specs.Acts.{entries, acts, acts_of}
-use Rattle.dm_model.specs.Allowed.{Allowed, clauses}
-use Rattle.dm_model.specs.Clauses.{holds}
+use Rattle.dm_model.specs.Acts.{acts, acts_of}
+use Rattle.dm_model.specs.Allowed.{Allowed}
 use Rattle.dm_model.specs.Doubts.{step_of, pending_at}
 use Rattle.dm_model.specs.Legal.{LegalPast}
 use Rattle.dm_model.specs.Masters.{opens_with, grants, releases}
 use Rattle.dm_model.specs.OneMaster.{takes, HasOneMaster, WritesMastered, OneMasterPast}
 use Rattle.dm_model.specs.Placings.{placing, after_acts, asked, settled, masters_now}
-use Rattle.dm_model.specs.Progress.{reached}
 use Rattle.dm_model.specs.Words.{latest}
 
 -- the placing gives the partition to the site under the epoch
@@ -57,23 +54,29 @@ pub record Agree (layout : Layout) (ds : List Step) (p : ℕ) (pl : Placing) : T
   pub before : (i e : ℕ) → list_any (releases i p e) ds ≡ true → e < bound pl
   pub free : unwrap_or (latest (takes p) ds) false ≡ is_free pl
 
-asked_same : (p : Placing) (to : ℕ) → ((i e : ℕ) → gives (asked p to) i e ≡ gives p i e) × (bound (asked p to) ≡ bound p) × (is_free (asked p to) ≡ is_free p)
-asked_same (Settled site epoch) to = ((λ i e. refl), refl, refl)
-asked_same (Asked site epoch t) to = ((λ i e. refl), refl, refl)
-asked_same (Between site epoch t vector) to = ((λ i e. refl), refl, refl)
-asked_same (Granted site epoch) to = ((λ i e. refl), refl, refl)
+-- the two placings say the same of the master
+record Alike (x y : Placing) : Type 0 where
+  gives : (i e : ℕ) → gives y i e ≡ gives x i e
+  bound : bound y ≡ bound x
+  free : is_free y ≡ is_free x
 
-settled_same : (p : Placing) → ((i e : ℕ) → gives (settled p) i e ≡ gives p i e) × (bound (settled p) ≡ bound p) × (is_free (settled p) ≡ is_free p)
-settled_same (Settled site epoch) = ((λ i e. refl), refl, refl)
-settled_same (Asked site epoch t) = ((λ i e. refl), refl, refl)
-settled_same (Between site epoch t vector) = ((λ i e. refl), refl, refl)
-settled_same (Granted site epoch) = ((λ i e. refl), refl, refl)
+asked_same : (p : Placing) (to : ℕ) → Alike p (asked p to)
+asked_same (Settled site epoch) to = record { gives = λ i e. refl; bound = refl; free = refl }
+asked_same (Asked site epoch t) to = record { gives = λ i e. refl; bound = refl; free = refl }
+asked_same (Between site epoch t vector) to = record { gives = λ i e. refl; bound = refl; free = refl }
+asked_same (Granted site epoch) to = record { gives = λ i e. refl; bound = refl; free = refl }
 
-replaced : (layout : Layout) (ds : List Step) (p : ℕ) (x y : Placing) → ((i e : ℕ) → gives y i e ≡ gives x i e) × (bound y ≡ bound x) × (is_free y ≡ is_free x) → Agree layout ds p x → Agree layout ds p y
+settled_same : (p : Placing) → Alike p (settled p)
+settled_same (Settled site epoch) = record { gives = λ i e. refl; bound = refl; free = refl }
+settled_same (Asked site epoch t) = record { gives = λ i e. refl; bound = refl; free = refl }
+settled_same (Between site epoch t vector) = record { gives = λ i e. refl; bound = refl; free = refl }
+settled_same (Granted site epoch) = record { gives = λ i e. refl; bound = refl; free = refl }
+
+replaced : (layout : Layout) (ds : List Step) (p : ℕ) (x y : Placing) → Alike x y → Agree layout ds p x → Agree layout ds p y
 replaced layout ds p x y h a = record {
-  same = λ i e. a.same i e ∙ sym (h.0 i e);
-  before = λ i e r. (let b = a.before i e r in let c = h.1 in omega arith);
-  free = a.free ∙ sym h.2;
+  same = λ i e. a.same i e ∙ sym (h.gives i e);
+  before = λ i e r. (let b = a.before i e r in let c = h.bound in omega arith);
+  free = a.free ∙ sym h.free;
 }
 
 by_test : (layout : Layout) (ds : List Step) (p : ℕ) (f : Placing → Placing) (b : Bool) (x : Placing) → Agree layout ds p x → Agree layout ds p (f x) → Agree layout ds p (if b then f x else x)
@@ -161,14 +164,14 @@ commit_agrees layout ds p e x a = record { same = a.same; before = a.before; fre
 abbrev pub AgreePast : Layout → List Step → Type 0
 AgreePast layout past = (p : ℕ) → Agree layout (acts past) p (placing layout past p)
 
-kept_agrees : (layout : Layout) (past : List Step) (site : ℕ) (o : Option Pending) → Held (part_of layout) (entries past) (floor_at layout past site) (placing layout past) site o → AgreePast layout past
+kept_agrees : (layout : Layout) (past : List Step) (site : ℕ) (o : Option Pending) → Held (part_of layout) (mastery layout past) site o → AgreePast layout past
     → (p : ℕ) → Agree layout (option_to_list (option_map (step_of site) o) ++ acts past) p (after_acts p (option_to_list (option_map (step_of site) o)) (placing layout past p))
 kept_agrees layout past site None h a p = a p
 kept_agrees layout past site (Some (pending.Commit e)) h a p = commit_agrees layout (acts past) p e (placing layout past p) (a p)
 kept_agrees layout past site (Some (pending.Release part epoch to v)) h a p =
-    release_agrees layout (acts past) p site part epoch to v (placing layout past p) to (a p) (λ q. ap (placing layout past) (sym q) ∙ h.0)
+    release_agrees layout (acts past) p site part epoch to v (placing layout past p) to (a p) (λ q. ap (placing layout past) (sym q) ∙ h.asked)
 kept_agrees layout past site (Some (pending.Grant part epoch v)) h a p =
-    grant_agrees layout (acts past) p site part epoch h.0 h.1 site v v (placing layout past p) (a p) (λ q. ap (placing layout past) (sym q) ∙ h.2) h.3
+    grant_agrees layout (acts past) p site part epoch h.from h.old site v v (placing layout past p) (a p) (λ q. ap (placing layout past) (sym q) ∙ h.between) h.next
 
 pub agree_step : (layout : Layout) (past : List Step) (s : Step) → SoundPast layout past → Seated past → MasteredPast layout past → Allowed layout past s → AgreePast layout past → AgreePast layout (s ∷ past)
 agree_step layout past (Ask part epoch to txn) n seat m h a =
@@ -177,17 +180,14 @@ agree_step layout past (Settle part epoch) n seat m h a =
     λ p. by_test layout (acts past) p settled (part == p) (placing layout past p) (a p) (replaced layout (acts past) p (placing layout past p) (settled (placing layout past p)) (settled_same (placing layout past p)) (a p))
 agree_step layout past (Commit e) n seat m h a = λ p. commit_agrees layout (acts past) p e (placing layout past p) (a p)
 agree_step layout past (Release site part epoch to vector) n seat m h a =
-    let c = all_hold (holds _ why.Shape ∷ clauses layout past (Release site part epoch to vector)) h in
-    let f = release_says layout past n seat m site part epoch to vector c.1 in
-    λ p. release_agrees layout (acts past) p site part epoch to vector (placing layout past p) to (a p) (λ q. ap (placing layout past) (sym q) ∙ f.0)
+    let legal = legal_release layout past site part epoch to vector h in
+    λ p. release_agrees layout (acts past) p site part epoch to vector (placing layout past p) to (a p) (λ q. ap (placing layout past) (sym q) ∙ legal.asked)
 agree_step layout past (Grant site part epoch vector) n seat m h a =
-    let c = all_hold (holds _ why.Shape ∷ clauses layout past (Grant site part epoch vector)) h in
-    let long = eqb-true (length vector) layout.sites (and_parts _ (length vector == layout.sites) (and_parts (is_site layout site) _ (holds_true _ _ c.0)).1).1 in
-    let f = grant_says layout past n seat m site part epoch vector long c.1 in
-    λ p. grant_agrees layout (acts past) p site part epoch f.0 f.1 site vector vector (placing layout past p) (a p) (λ q. ap (placing layout past) (sym q) ∙ f.2) f.5
+    let legal = legal_grant layout past site part epoch vector h in
+    λ p. grant_agrees layout (acts past) p site part epoch legal.from legal.old site vector vector (placing layout past p) (a p)
+    (λ q. ap (placing layout past) (sym q) ∙ legal.between) legal.next
 agree_step layout past (Restart site vector Kept) n seat m h a =
-    let c = all_hold (holds _ why.Shape ∷ clauses layout past (Restart site vector Kept)) h in
-    kept_agrees layout past site (pending_at site past) (m.held site (holds_true _ _ c.1.0)) a
+    kept_agrees layout past site (pending_at site past) (m.held site (legal_restart layout past site vector Kept h).fits) a
 agree_step layout past other n seat m h a = a
 
 nothing_yet : (layout : Layout) (p : ℕ) → Agree layout [] p (placing layout [] p)
@@ -222,40 +222,48 @@ none_given (Asked site epoch to) h i e = absurd (false≢true h)
 none_given (Between site epoch to vector) h i e = refl
 none_given (Granted site epoch) h i e = absurd (false≢true h)
 
-some_given : (pl : Placing) → is_free pl ≡ false → (i : ℕ) × (e : ℕ) × (gives pl i e ≡ true)
-some_given (Settled site epoch) h = (site, epoch, and_from _ _ (eq-eqb site site refl) (eq-eqb epoch epoch refl))
-some_given (Asked site epoch to) h = (site, epoch, and_from _ _ (eq-eqb site site refl) (eq-eqb epoch epoch refl))
-some_given (Between site epoch to vector) h = absurd (false≢true (sym h))
-some_given (Granted site epoch) h = (site, epoch, and_from _ _ (eq-eqb site site refl) (eq-eqb epoch epoch refl))
+-- the placing gives the partition to this site under this epoch
+record Given (pl : Placing) (i : ℕ) : Type 0 where
+  epoch : ℕ
+  is : gives pl i epoch ≡ true
 
-master_given : (pl : Placing) (i : ℕ) → masters_now pl i ≡ true → (e : ℕ) × (gives pl i e ≡ true)
-master_given (Settled site epoch) i h = (epoch, and_from _ _ h (eq-eqb epoch epoch refl))
-master_given (Asked site epoch to) i h = (epoch, and_from _ _ h (eq-eqb epoch epoch refl))
+some_given : (pl : Placing) → is_free pl ≡ false → (i : ℕ) × Given pl i
+some_given (Settled site epoch) h = (site, record { epoch = epoch; is = and_from _ _ (eq-eqb site site refl) (eq-eqb epoch epoch refl) })
+some_given (Asked site epoch to) h = (site, record { epoch = epoch; is = and_from _ _ (eq-eqb site site refl) (eq-eqb epoch epoch refl) })
+some_given (Between site epoch to vector) h = absurd (false≢true (sym h))
+some_given (Granted site epoch) h = (site, record { epoch = epoch; is = and_from _ _ (eq-eqb site site refl) (eq-eqb epoch epoch refl) })
+
+master_given : (pl : Placing) (i : ℕ) → masters_now pl i ≡ true → Given pl i
+master_given (Settled site epoch) i h = record { epoch = epoch; is = and_from _ _ h (eq-eqb epoch epoch refl) }
+master_given (Asked site epoch to) i h = record { epoch = epoch; is = and_from _ _ h (eq-eqb epoch epoch refl) }
 master_given (Between site epoch to vector) i h = absurd (false≢true h)
-master_given (Granted site epoch) i h = (epoch, and_from _ _ h (eq-eqb epoch epoch refl))
+master_given (Granted site epoch) i h = record { epoch = epoch; is = and_from _ _ h (eq-eqb epoch epoch refl) }
 
 one_here : (layout : Layout) (past : List Step) → AgreePast layout past → (p : ℕ) → HasOneMaster layout past p
 one_here layout past a p = record {
   only = λ i k e f g h. one_given (placing layout past p) i k e f (sym ((a p).same i e) ∙ g) (sym ((a p).same k f) ∙ h);
   none = λ b i e. (a p).same i e ∙ none_given (placing layout past p) (sym (a p).free ∙ b) i e;
-  some = λ b. (let x = some_given (placing layout past p) (sym (a p).free ∙ b) in (x.0, x.1, (a p).same x.0 x.1 ∙ x.2));
+  some = λ b. (let x = some_given (placing layout past p) (sym (a p).free ∙ b) in (x.0, x.1.epoch, (a p).same x.0 x.1.epoch ∙ x.1.is));
 }
 
 writes_here : (layout : Layout) (past : List Step) (s : Step) → SoundPast layout past → Seated past → MasteredPast layout past → Allowed layout past s → AgreePast layout past → WritesMastered layout past (acts_of s past)
-writes_here layout past (Commit e) n seat m h a =
-    let c = all_hold (holds _ why.Shape ∷ clauses layout past (Commit e)) h in
-    λ key w. (let x = master_given (placing layout past (part_of layout key)) e.origin (commit_holds layout past n seat m e c.1 key w).0 in (x.0, (a (part_of layout key)).same e.origin x.0 ∙ x.1))
+writes_here layout past (Commit e) n seat m h a = λ key w. (
+    let masters = (commit_holds layout past n seat m e (legal_commit layout past e h) key w).masters in
+    let x = master_given (placing layout past (part_of layout key)) e.origin masters in
+    (x.epoch, (a (part_of layout key)).same e.origin x.epoch ∙ x.is))
 writes_here layout past (Restart site vector Kept) n seat m h a =
-    let c = all_hold (holds _ why.Shape ∷ clauses layout past (Restart site vector Kept)) h in
-    kept (pending_at site past) (m.held site (holds_true _ _ c.1.0)) (n.in_doubt site (holds_true _ _ c.1.0))
+    let fits = (legal_restart layout past site vector Kept h).fits in
+    kept (pending_at site past) (m.held site fits) (n.in_doubt site fits)
   where
-    kept : (o : Option Pending) → Held (part_of layout) (entries past) (floor_at layout past site) (placing layout past) site o → InDoubt layout.sites (entries past) (λ j. reached site j past) site o → WritesMastered layout past (option_to_list (option_map (step_of site) o))
+    kept : (o : Option Pending) → Held (part_of layout) (mastery layout past) site o → InDoubt layout.sites (counts past) site o
+        → WritesMastered layout past (option_to_list (option_map (step_of site) o))
     kept None d f = tt
     kept (Some (pending.Release part epoch to v)) d f = tt
     kept (Some (pending.Grant part epoch v)) d f = tt
     kept (Some (pending.Commit e)) d f = λ key w. (
-        let x = master_given (placing layout past (part_of layout key)) e.origin (subst (λ (i : ℕ). masters_now (placing layout past (part_of layout key)) i ≡ true) (sym f.0) (d key w).0) in
-        (x.0, (a (part_of layout key)).same e.origin x.0 ∙ x.1))
+        let now = placing layout past (part_of layout key) in
+        let x = master_given now e.origin (subst (λ (i : ℕ). masters_now now i ≡ true) (sym f.own) (d key w).masters) in
+        (x.epoch, (a (part_of layout key)).same e.origin x.epoch ∙ x.is))
 writes_here layout past other n seat m h a = tt
 
 pub one_master_past : (layout : Layout) (past : List Step) → LegalPast layout past → OneMasterPast layout past

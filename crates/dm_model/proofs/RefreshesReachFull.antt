@@ -1,24 +1,21 @@
 -- Refreshes bring each site that is up to the full vector, and no further.
-use Rattle.std.proofs.Common.{ℕ, ◌+◌, ◌≤◌, ◌≡◌, ◌≢◌, false, true, List, ◌∷◌, Option, Some, None, refl, ap, ◌∙◌, arith, nat_lt, nat_le}
-use Rattle.std.proofs.lemmas.Bool.{leb-true, ltb-true, ltb-false, false≢true, and_parts}
-use Rattle.std.specs.Prelude.{find, is_some}
+use Rattle.std.proofs.Common.{ℕ, ◌+◌, ◌≤◌, ◌≡◌, ◌≢◌, false, true, List, Option, Some, None, refl, ap, ◌∙◌, arith, nat_lt}
+use Rattle.std.proofs.lemmas.Bool.{leb-true, ltb-true, ltb-false}
+use Rattle.std.specs.Prelude.{find}
 use Rattle.dm_event.specs.Layout.{Layout, is_site}
 use Rattle.dm_event.specs.Vectors.{at, AtMost, sites_to}
-use Rattle.dm_event.specs.declared.step.Entry.{Entry}
 use Rattle.dm_event.specs.declared.step.Step.{Step}
 use Rattle.dm_event.specs.declared.step.Step.TheVariants.{Refresh}
-use Rattle.dm_event.specs.declared.why.Why.TheVariants as why
-use Rattle.dm_model.proofs.ClausesHold.{holds_true, all_hold}
 use Rattle.dm_model.proofs.FloorsClosed.{floor_closed}
-use Rattle.dm_model.proofs.LaggingRefresh.{may_refresh}
+use Rattle.dm_model.proofs.LaggingRefresh.{lagging_refresh}
+use Rattle.dm_model.proofs.LegalSteps.{in_range, legal_refresh}
 use Rattle.dm_model.proofs.ListFacts.{each_map, found_holds, find_none, each_range, map_same}
 use Rattle.dm_model.proofs.MastershipSound.{floor_at}
 use Rattle.dm_model.proofs.Numbering.{found_entry}
 use Rattle.dm_model.proofs.NumbersSound.{sound_past}
 use Rattle.dm_model.proofs.VectorFacts.{at_by}
 use Rattle.dm_model.specs.Acts.{entries}
-use Rattle.dm_model.specs.Allowed.{Allowed, next_entry, clauses}
-use Rattle.dm_model.specs.Clauses.{holds}
+use Rattle.dm_model.specs.Allowed.{Allowed}
 use Rattle.dm_model.specs.Closed.{Closed, is_inside}
 use Rattle.dm_model.specs.Doubts.{is_down}
 use Rattle.dm_model.specs.Floors.{floor}
@@ -43,7 +40,7 @@ pub lagging_may_refresh : (layout : Layout) (past : List Step) → LegalPast lay
 lagging_may_refresh layout past h site is up differ = by_lag (find (λ j. nat_lt (reached site j past) (entry_count j past)) (sites_to layout.sites)) refl
   where
     by_lag : (o : Option ℕ) → find (λ j. nat_lt (reached site j past) (entry_count j past)) (sites_to layout.sites) ≡ o → (origin : ℕ) × Allowed layout past (Refresh site origin)
-    by_lag (Some j) f = may_refresh layout past h site is up j (ltb-true (reached site j past) (entry_count j past) (found_holds (λ j. nat_lt (reached site j past) (entry_count j past)) (sites_to layout.sites) j f))
+    by_lag (Some j) f = lagging_refresh layout past h site (in_range layout site is) up j (ltb-true (reached site j past) (entry_count j past) (found_holds (λ j. nat_lt (reached site j past) (entry_count j past)) (sites_to layout.sites) j f))
     by_lag None f =
         absurd (differ (map_same (λ j. reached site j past) (λ j. entry_count j past) 1 layout.sites (λ j l m.
         let a = ltb-false (reached site j past) (entry_count j past) (each_range (λ j. nat_lt (reached site j past) (entry_count j past) ≡ false) 1 layout.sites (find_none (λ j. nat_lt (reached site j past) (entry_count j past)) (sites_to layout.sites) f) j l m) in
@@ -54,15 +51,9 @@ lagging_may_refresh layout past h site is up differ = by_lag (find (λ j. nat_lt
 
 pub full_may_not_refresh : (layout : Layout) (past : List Step) → LegalPast layout past → (site : ℕ) → site_vector layout.sites past site ≡ full layout.sites past → (origin : ℕ) → Allowed layout past (Refresh site origin) → ⊥
 full_may_not_refresh layout past h site same origin a =
-    let c = all_hold (holds _ why.Shape ∷ clauses layout past (Refresh site origin)) a in
-    let shape = and_parts (is_site layout site) (is_site layout origin) (holds_true _ _ c.0) in
-    by_next (next_entry layout past site origin) refl (holds_true _ _ c.1.1.1.0) shape.1
-  where
-    by_next : (o : Option Entry) → next_entry layout past site origin ≡ o → is_some o ≡ true → is_site layout origin ≡ true → ⊥
-    by_next None f s i = false≢true s
-    by_next (Some e) f s i =
-        let range = and_parts (nat_le 1 origin) (nat_le origin layout.sites) i in
-        let has : at (site_vector layout.sites past site) origin ≡ entry_count origin past = ap (λ (v : List ℕ). at v origin) same ∙ at_by layout.sites (λ j. entry_count j past) origin (leb-true 1 origin range.0) (leb-true origin layout.sites range.1) in
-        let g = found_entry (entries past) origin (at (site_vector layout.sites past site) origin + 1) e (sound_past layout past h).numbered f in
-        let w = g.within in let q = g.seq in
-        absurd (omega (arith, has))
+    let legal = legal_refresh layout past site origin a in
+    let has : at (site_vector layout.sites past site) origin ≡ entry_count origin past =
+        ap (λ (v : List ℕ). at v origin) same ∙ at_by layout.sites (λ j. entry_count j past) origin legal.there.one legal.there.top in
+    let g = found_entry (entries past) origin (at (site_vector layout.sites past site) origin + 1) legal.entry (sound_past layout past h).numbered legal.next in
+    let w = g.within in let q = g.seq in
+    absurd (omega (arith, has, w, q))

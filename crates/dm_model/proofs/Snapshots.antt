@@ -1,6 +1,6 @@
 -- In every legal past what a transaction read stays what the whole past gives.
 use Rattle.std.proofs.Common.{ℕ, ℤ, ◌≤◌, ◌≡◌, Bool, true, false, ◌==◌, if◌then◌else◌, List, [], ◌∷◌, ◌++◌, Option, Some, None, sym, ap, ◌∙◌, arith, inl, inr, unwrap_or}
-use Rattle.std.proofs.lemmas.Bool.{false≢true, and_parts, lt-leb}
+use Rattle.std.proofs.lemmas.Bool.{false≢true, lt-leb}
 use Rattle.std.specs.List.{AllByRecursion as Each}
 use Rattle.std.specs.Option.{option_or}
 use Rattle.std.specs.Prelude.{option_map, option_to_list, filter_map}
@@ -12,23 +12,21 @@ use Rattle.dm_event.specs.declared.step.Pending.{Pending}
 use Rattle.dm_event.specs.declared.step.Pending.TheVariants as pending
 use Rattle.dm_event.specs.declared.step.Step.{Step}
 use Rattle.dm_event.specs.declared.step.Step.TheVariants.{Commit, End, Doubt, Restart}
-use Rattle.dm_event.specs.declared.why.Why.TheVariants as why
-use Rattle.dm_model.proofs.ClausesHold.{all_hold, holds_true, runs_due}
+use Rattle.dm_event.specs.declared.step.Op.{Op}
+use Rattle.dm_event.specs.declared.step.Pair.{Pair}
+use Rattle.dm_model.proofs.LegalSteps.{LegalCommit, legal_commit, legal_end, legal_restart, doubted_commit}
 use Rattle.dm_model.proofs.ListFacts.{each_map}
 use Rattle.dm_model.proofs.Numbering.{Numbered, count_at, count_more}
-use Rattle.dm_model.proofs.NumbersSound.{SoundPast, sound_past, sound_step, commit_says}
-use Rattle.dm_model.proofs.SameValues.{pairs_same}
+use Rattle.dm_model.proofs.NumbersSound.{SoundPast, sound_past, sound_step, commit_within}
 use Rattle.dm_model.proofs.StepTests.{ran}
 use Rattle.dm_model.specs.Acts.{entries, acts, entry_of}
-use Rattle.dm_model.specs.Allowed.{Allowed, clauses, commit_clauses}
-use Rattle.dm_model.specs.Bodies.{body, ran_at}
-use Rattle.dm_model.specs.Clauses.{holds}
+use Rattle.dm_model.specs.Allowed.{Allowed}
+use Rattle.dm_model.specs.Bodies.{body}
 use Rattle.dm_model.specs.Closed.{is_inside}
 use Rattle.dm_model.specs.Doubts.{step_of, is_down, down_after, pending_at}
 use Rattle.dm_model.specs.Legal.{LegalPast}
 use Rattle.dm_model.specs.Runs.{began_at}
 use Rattle.dm_model.specs.Snapshot.{ReadsMatch, SnapshotPast}
-use Rattle.dm_model.specs.Tests.{same_pairs}
 use Rattle.dm_model.specs.Values.{newest, written}
 use Rattle.dm_model.specs.Words.{latest}
 
@@ -43,7 +41,7 @@ WithinCounts es v = (j : ℕ) → at v j ≤ count_at j es
 -- an entry that comes is inside no vector that is within the counts
 pub value_more : (layout : Layout) (d : Entry) (es : List Entry) (v : List ℕ) → Numbered (d ∷ es) → WithinCounts es v → value_in layout (d ∷ es) v ≡ value_in layout es v
 value_more layout d es v n c =
-    let out : is_inside v d ≡ false = lt-leb d.seq (at v d.origin) (let a = c d.origin in omega (arith, n.0)) in
+    let out : is_inside v d ≡ false = lt-leb d.seq (at v d.origin) (let a = c d.origin in let b = n.0.seq in omega (arith, a, b)) in
     λ i key. unwrap_or (option_or (if out i then written d.writes key else None) (newest es key v)) (opening_value layout key)
 
 pub within_more : (d : Entry) (es : List Entry) (v : List ℕ) → WithinCounts es v → WithinCounts (d ∷ es) v
@@ -64,19 +62,25 @@ fits_more layout d es e n f =
       within = within_more d es e.begin f.within;
     }
 
--- the ends in these steps
+-- an End read what its ops do at its begin vector
+pub record EndFits (layout : Layout) (es : List Entry) (begin : List ℕ) (ops : List Op) (reads : List Pair) : Type 0 where
+  pub read : reads ≡ (body ops (value_in layout es begin)).reads
+  pub within : WithinCounts es begin
+
+-- the Ends in these steps
 abbrev pub EndsFit : Layout → List Entry → List Step → Type 0
 EndsFit layout es [] = Unit {0}
-EndsFit layout es (End site txn ops reads ∷ past) =
-    (reads ≡ (body ops (value_in layout es (began_at txn past))).reads) × WithinCounts es (began_at txn past) × EndsFit layout es past
+EndsFit layout es (End site txn ops reads ∷ past) = EndFits layout es (began_at txn past) ops reads × EndsFit layout es past
 EndsFit layout es (s ∷ past) = EndsFit layout es past
 
 pub ends_more : (layout : Layout) (d : Entry) (es : List Entry) (past : List Step) → Numbered (d ∷ es) → EndsFit layout es past → EndsFit layout (d ∷ es) past
 ends_more layout d es [] n h = tt
 ends_more layout d es (End site txn ops reads ∷ past) n h = (
-  h.0 ∙ ap (λ (g : ℕ → ℤ). (body ops g).reads) (sym (value_more layout d es (began_at txn past) n h.1)),
-  within_more d es _ h.1,
-  ends_more layout d es past n h.2,
+  record {
+    read = h.0.read ∙ ap (λ (g : ℕ → ℤ). (body ops g).reads) (sym (value_more layout d es (began_at txn past) n h.0.within));
+    within = within_more d es _ h.0.within;
+  },
+  ends_more layout d es past n h.1,
 )
 ends_more layout d es (s ∷ past) n h = ends_more layout d es past n h
 
@@ -116,18 +120,15 @@ one_entry layout es past past' down down' doubt e s n f g d = record {
 }
 
 module _ (layout : Layout) (past : List Step) (n : SoundPast layout past) (s : SnapPast layout past) where
-  pub commit_fits : (e : Entry) → Each (λ c. c ≡ None) (commit_clauses layout past e) → Fits layout (entries past) e
-  commit_fits e c =
-      let b = and_parts (same_pairs e.reads (ran_at layout past e.begin e.ops).reads) (same_pairs e.writes (ran_at layout past e.begin e.ops).writes) (holds_true _ _ c.1.1.1.1.1.0) in
-      let f = commit_says layout past n e c in
-      record {
-        reads = pairs_same e.reads _ b.0;
-        writes = pairs_same e.writes _ b.1;
-        within = λ j. (let x = f.2.below j in let y = (n.closed e.origin).within j in omega arith);
-      }
+  pub commit_fits : (e : Entry) → LegalCommit layout past e → Fits layout (entries past) e
+  commit_fits e legal = record {
+    reads = legal.reads;
+    writes = legal.writes;
+    within = λ j. (let x = (commit_within layout past n e legal).below j in let y = (n.closed e.origin).within j in omega arith);
+  }
 
   rise : (site k : ℕ) (o : Option Bool) → unwrap_or (option_or (if site == k then Some false else None) o) false ≡ true → unwrap_or o false ≡ true
-  rise site k o r = elim (ran (site == k) false o r) [ inl q ↦ absurd (false≢true q.1) | inr q ↦ q.1 ]
+  rise site k o r = elim (ran (site == k) false o r) [ inl q ↦ absurd (false≢true q.now) | inr q ↦ q.before ]
 
   snap_doubt : (site : ℕ) (p : Pending) → DoubtFits layout (entries past) (Some p) → SnapPast layout (Doubt site p ∷ past)
   snap_doubt site p f = same_entries layout (entries past) past (Doubt site p ∷ past) _ (λ i. is_down i (Doubt site p ∷ past)) _ (λ i. pending_at i (Doubt site p ∷ past)) s s.ends
@@ -146,26 +147,25 @@ module _ (layout : Layout) (past : List Step) (n : SoundPast layout past) (s : S
 
 pub snap_step : (layout : Layout) (past : List Step) (s : Step) → SoundPast layout past → Allowed layout past s → SnapPast layout past → SnapPast layout (s ∷ past)
 snap_step layout past (Commit e) n h s =
-    let c = all_hold (holds _ why.Shape ∷ clauses layout past (Commit e)) h in
-    one_entry layout (entries past) past (Commit e ∷ past) _ (λ i. is_down i past) _ e s (sound_step layout past (Commit e) n h).numbered (commit_fits layout past n s e c.1) (λ x. x) (λ i d. d)
+    one_entry layout (entries past) past (Commit e ∷ past) _ (λ i. is_down i past) _ e s (sound_step layout past (Commit e) n h).numbered (commit_fits layout past n s e (legal_commit layout past e h)) (λ x. x) (λ i d. d)
 snap_step layout past (End site txn ops reads) n h s =
-    let c = all_hold (holds _ why.Shape ∷ clauses layout past (End site txn ops reads)) h in
-    let r = n.running site txn (runs_due layout past txn site (holds_true _ _ c.1.0) c.1.1.0) in
+    let legal = legal_end layout past site txn ops reads h in
+    let r = n.running site txn legal.runs in
     same_entries layout _ past _ _ _ _ _ s (
-      pairs_same reads _ (holds_true _ _ c.1.1.1.1.0),
-      (λ j. (let a = r.2.below j in let b = (n.closed site).within j in let e = ap (λ (o : Option (List ℕ)). at (unwrap_or o []) j) r.1 in omega arith)),
+      record {
+        read = legal.read;
+        within = λ j. (let a = r.within.below j in let b = (n.closed site).within j in let e = ap (λ (o : Option (List ℕ)). at (unwrap_or o []) j) r.is in omega arith);
+      },
       s.ends,
     ) s.held
 snap_step layout past (Doubt site (pending.Commit e)) n h s =
-    let c = all_hold (holds _ why.Shape ∷ clauses layout past (Doubt site (pending.Commit e))) h in
-    snap_doubt layout past n s site (pending.Commit e) (commit_fits layout past n s e c.1)
+    snap_doubt layout past n s site (pending.Commit e) (commit_fits layout past n s e (doubted_commit layout past site e h).commit)
 snap_step layout past (Doubt site (pending.Release part epoch to vector)) n h s = snap_doubt layout past n s site (pending.Release part epoch to vector) tt
 snap_step layout past (Doubt site (pending.Grant part epoch vector)) n h s = snap_doubt layout past n s site (pending.Grant part epoch vector) tt
 snap_step layout past (Restart site vector Clean) n h s = same_entries layout _ past _ _ _ _ _ s s.ends (λ i d. s.held i (rise layout past n s site i _ d))
 snap_step layout past (Restart site vector Lost) n h s = same_entries layout _ past _ _ _ _ _ s s.ends (λ i d. s.held i (rise layout past n s site i _ d))
 snap_step layout past (Restart site vector Kept) n h s =
-    let c = all_hold (holds _ why.Shape ∷ clauses layout past (Restart site vector Kept)) h in
-    snap_kept layout past n s site vector (pending_at site past) (s.held site (holds_true _ _ c.1.0)) (sound_step layout past (Restart site vector Kept) n h).numbered
+    snap_kept layout past n s site vector (pending_at site past) (s.held site (legal_restart layout past site vector Kept h).fits) (sound_step layout past (Restart site vector Kept) n h).numbered
 snap_step layout past other n h s = same_entries layout _ past _ _ _ _ _ s s.ends s.held
 
 pub snap_past : (layout : Layout) (past : List Step) → LegalPast layout past → SnapPast layout past
@@ -174,7 +174,7 @@ snap_past layout (s ∷ past) h = snap_step layout past s (sound_past layout pas
 
 reads_match : (layout : Layout) (whole past : List Step) → EndsFit layout (entries whole) past → ReadsMatch layout whole past
 reads_match layout whole [] h = tt
-reads_match layout whole (End site txn ops reads ∷ past) h = (h.0, reads_match layout whole past h.2)
+reads_match layout whole (End site txn ops reads ∷ past) h = (h.0.read, reads_match layout whole past h.1)
 reads_match layout whole (s ∷ past) h = reads_match layout whole past h
 
 pub snapshot_past : (layout : Layout) (past : List Step) → LegalPast layout past → SnapshotPast layout past

@@ -5,14 +5,22 @@ use Rattle.std.specs.Option.{option_or}
 use Rattle.dm_event.specs.declared.attempt.AttemptState.{AttemptState}
 
 -- a run that goes on after a step which would end it where the test passes
-pub went_on : (b : Bool) (o : Option Bool) → unwrap_or (option_or (if b then Some false else None) o) false ≡ true → (b ≡ false) × (unwrap_or o false ≡ true)
+pub record Passed (b : Bool) (o : Option Bool) : Type 0 where
+  pub test : b ≡ false
+  pub before : unwrap_or o false ≡ true
+
+pub went_on : (b : Bool) (o : Option Bool) → unwrap_or (option_or (if b then Some false else None) o) false ≡ true → Passed b o
 went_on true o h = absurd (false≢true h)
-went_on false o h = (refl, h)
+went_on false o h = record { test = refl; before = h }
 
 -- a run after a step which decides it where the test passes
-pub ran : (b here : Bool) (o : Option Bool) → unwrap_or (option_or (if b then Some here else None) o) false ≡ true → ((b ≡ true) × (here ≡ true)) ⊎ ((b ≡ false) × (unwrap_or o false ≡ true))
-ran true here o h = inl (refl, h)
-ran false here o h = inr (refl, h)
+pub record Decided (b here : Bool) : Type 0 where
+  pub test : b ≡ true
+  pub now : here ≡ true
+
+pub ran : (b here : Bool) (o : Option Bool) → unwrap_or (option_or (if b then Some here else None) o) false ≡ true → Decided b here ⊎ Passed b o
+ran true here o h = inl (record { test = refl; now = h })
+ran false here o h = inr (record { test = refl; before = h })
 
 -- the latest step of which a test passes gives what is looked for
 pub taken : {X : Type 0} (b : Bool) (x : X) (o : Option X) → b ≡ true → option_or (if b then Some x else None) o ≡ Some x

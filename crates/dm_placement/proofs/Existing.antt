@@ -8,14 +8,11 @@ use Rattle.dm_event.specs.Layout.{Layout, is_key}
 use Rattle.dm_event.specs.declared.step.Step.{Step}
 use Rattle.dm_event.specs.declared.step.Step.TheVariants.{Route}
 use Rattle.dm_event.specs.declared.step.Want.TheVariants as want
-use Rattle.dm_event.specs.declared.why.Why.TheVariants as why
-use Rattle.dm_model.proofs.Judged.{shape_of}
-use Rattle.dm_model.proofs.ClausesHold.{all_hold, holds_true}
-use Rattle.dm_model.specs.Allowed.{Allowed, clauses}
-use Rattle.dm_model.specs.Clauses.{holds}
+use Rattle.dm_model.proofs.LegalSteps.{legal_route}
+use Rattle.dm_model.specs.Allowed.{Allowed}
 use Rattle.dm_model.specs.Choices.{declared_parts, parts_in_order, parts_of, window as window_of}
 use Rattle.dm_model.specs.Legal.{LegalPast}
-use Rattle.dm_model.specs.Shape.{is_shaped, is_txn, is_want, is_ascending}
+use Rattle.dm_model.specs.Shape.{is_ascending}
 use Rattle.dm_model.specs.Tests.{is_among}
 use Rattle.dm_placement.proofs.Joined.{Below}
 use Rattle.dm_placement.proofs.Windows.{among_distinct}
@@ -49,8 +46,7 @@ keys_below layout (key ∷ keys) h p e =
 
 declared_below : (layout : Layout) (past : List Step) (s : Step) (parts : List ℕ) → Allowed layout past s → declared_parts layout s ≡ Some parts → Below (length layout.masters) parts
 declared_below layout past (Route txn (want.Txn (key ∷ keys)) min site choice) parts a e p among =
-    let route = Route txn (want.Txn (key ∷ keys)) min site choice in
-    let wanted = (and_parts (is_want layout (want.Txn (key ∷ keys))) _ (and_parts (is_txn layout txn) _ (shape_of layout past route a)).1).0 in
+    let wanted = (legal_route layout past txn (want.Txn (key ∷ keys)) min site choice a).wants in
     let exist = (and_parts (nat_le (length (key ∷ keys)) 32) _ (and_parts (is_ascending (key ∷ keys)) _ wanted).1).1 in
     let same : parts_of layout (key ∷ keys) ≡ parts = cc (e) in
     keys_below layout (key ∷ keys) exist p (sym (among_distinct (parts_in_order layout (key ∷ keys)) p) ∙ ap (λ (l : List ℕ). is_among l p) same ∙ among)

@@ -1,10 +1,10 @@
 -- What legality says of the numbers in a list of steps.
 use Rattle.std.proofs.Common.{ℕ, ◌≤◌, ◌≡◌, ◌≢◌, Bool, true, false, cond, List, [], ◌∷◌, Option, Some, None, length, refl, ap, sym, ◌∙◌, arith, subst, eqb-true}
 use Rattle.std.proofs.Common.{eq-eqb}
-use Rattle.std.specs.Prelude.{nat_le, option_map, ◌==◌, ◌&&◌, if◌then◌else◌, is_some, unwrap_or, IfSome}
+use Rattle.std.specs.Prelude.{option_map, ◌==◌, ◌&&◌, if◌then◌else◌, is_some, unwrap_or, IfSome}
 use Rattle.std.specs.List.{AllByRecursion as Each, list_all}
 use Rattle.std.specs.Option.{option_or}
-use Rattle.std.proofs.lemmas.Bool.{and_parts, leb-true, cond-true, cond-false, ne_eqb, both_ways}
+use Rattle.std.proofs.lemmas.Bool.{and_parts, cond-true, cond-false, ne_eqb, both_ways}
 use Rattle.dm_event.specs.Layout.{Layout, is_key}
 use Rattle.dm_event.specs.Vectors.{sites_to}
 use Rattle.dm_event.specs.declared.step.Entry.{Entry}
@@ -16,12 +16,9 @@ use Rattle.dm_event.specs.declared.step.Step.TheVariants.{Route, Reply, Ask, Set
 use Rattle.dm_event.specs.declared.step.TxnId.{TxnId}
 use Rattle.dm_event.specs.declared.step.Want.{Want}
 use Rattle.dm_event.specs.declared.step.Want.TheVariants as want
-use Rattle.dm_event.specs.declared.why.Why.TheVariants as why
 use Rattle.dm_event.specs.Entries.{commit_vector}
 use Rattle.dm_model.specs.Acts.{entries, entry_at}
-use Rattle.dm_model.specs.Allowed.{Allowed, clauses}
 use Rattle.dm_model.specs.Attempts.{Routing, routing_of, last_routing, routing, declared, wanted_keys}
-use Rattle.dm_model.specs.Clauses.{holds}
 use Rattle.dm_model.specs.Doubts.{pending_at}
 use Rattle.dm_model.specs.Legal.{LegalPast}
 use Rattle.dm_model.specs.Progress.{entry_count, reached, refreshed}
@@ -32,7 +29,7 @@ use Rattle.dm_model.specs.Words.{latest}
 use Rattle.dm_model.proofs.Judged.{shape_of}
 use Rattle.dm_model.proofs.LaggingRefresh.{Grounded, grounded_past}
 use Rattle.dm_model.proofs.VectorFacts.{long_raised}
-use Rattle.dm_model.proofs.ClausesHold.{all_hold, holds_true}
+use Rattle.dm_model.proofs.LegalSteps.{shaped, legal_route, legal_begin}
 use Rattle.dm_model.proofs.ListFacts.{found_each, found_holds}
 use Rattle.dm_model.proofs.NumbersSound.{sound_past}
 use Rattle.dm_plain.specs.Adding.{said_vector}
@@ -49,10 +46,9 @@ pub record Made (layout : Layout) (e : Entry) : Type 0 where
 made_all : (layout : Layout) (es : List Entry) → Grounded layout es → Each (λ e. length e.begin ≡ layout.sites) es → Each (Made layout) es
 made_all layout [] g l = tt
 made_all layout (e ∷ es) g l =
-    let r = and_parts (nat_le 1 e.origin) (nat_le e.origin layout.sites) g.0 in
-    let top = leb-true e.origin layout.sites r.1 in
+    let top = g.0.site.top in
     let here = l.0 in
-    (record { one = leb-true 1 e.origin r.0; within = omega (arith, top, here); long = here }, made_all layout es g.2 l.1)
+    (record { one = g.0.site.one; within = omega (arith, top, here); long = here }, made_all layout es g.1 l.1)
 
 pub made_entry : (layout : Layout) (past : List Step) → LegalPast layout past → (j n : ℕ) (e : Entry) → entry_at j n past ≡ Some e → Made layout e
 made_entry layout past h j n e f =
@@ -83,7 +79,7 @@ pub long_begin : (layout : Layout) (p : TxnId → Bool) (past : List Step) → L
 long_begin layout p [] h v e = absurd (cc (e))
 long_begin layout p (Begin site txn begin ∷ past) h v e =
     by_begin (p txn) begin v (latest (begin_of p) past) layout.sites
-    (eqb-true (length begin) layout.sites (and_parts _ (length begin == layout.sites) (and_parts _ _ (shape_of layout past (Begin site txn begin) h.1)).1).1)
+    (legal_begin layout past site txn begin h.1).long
     (λ f. long_begin layout p past h.0 v f) e
 long_begin layout p (Route txn want min site choice ∷ past) h v e = long_begin layout p past h.0 v e
 long_begin layout p (Reply session number said ∷ past) h v e = long_begin layout p past h.0 v e
@@ -115,14 +111,9 @@ pub fitting_route : (layout : Layout) (p : TxnId → Bool) (past : List Step) �
     → Fitting layout r
 fitting_route layout p [] h r e = absurd (cc (e))
 fitting_route layout p (Route txn want min site choice ∷ past) h r e =
-    let shape = (and_parts _ _ (shape_of layout past (Route txn want min site choice) h.1)).1 in
-    let more = (and_parts (is_want layout want) _ shape).1 in
+    let legal = legal_route layout past txn want min site choice h.1 in
     by_route layout (p txn) (record { txn = txn; want = want; min = min; site = site; choice = choice }) r (latest (routing_of p) past)
-    (record {
-      wants = (and_parts (is_want layout want) _ shape).0;
-      long =
-          eqb-true (length min) layout.sites (and_parts (length min == layout.sites) _ more).0;
-    })
+    (record { wants = legal.wants; long = legal.long })
     (λ f. fitting_route layout p past h.0 r f) e
 fitting_route layout p (Begin site txn begin ∷ past) h r e = fitting_route layout p past h.0 r e
 fitting_route layout p (Reply session number said ∷ past) h r e = fitting_route layout p past h.0 r e
@@ -184,7 +175,7 @@ pub runner_began : (layout : Layout) (past : List Step) → LegalPast layout pas
 runner_began layout past h t r =
     let at = some_is (run_site layout past t) r in
     let b = (sound_past layout past h).running at.0 t (found_holds (λ i. runs i t past) (sites_to layout.sites) at.0 at.1) in
-    ap (λ (o : Option (List ℕ)). is_some o) b.1
+    ap (λ (o : Option (List ℕ)). is_some o) b.is
 
 -- an attempt that hasn't begun doesn't run
 pub unbegun_idle : (layout : Layout) (past : List Step) → LegalPast layout past → (t : TxnId) → begin_vector t past ≡ None → run_site layout past t ≡ None
@@ -222,7 +213,7 @@ shaped_pending : (layout : Layout) (site : ℕ) (past : List Step) → LegalPast
     → is_shaped layout (Doubt site p) ≡ true
 shaped_pending layout site [] h p e = absurd (cc (e))
 shaped_pending layout site (Doubt i q ∷ past) h p e =
-    by_doubt layout site i q p (pending_at site past) (i == site) (eqb-true i site) (shape_of layout past (Doubt i q) h.1)
+    by_doubt layout site i q p (pending_at site past) (i == site) (eqb-true i site) (shaped layout past (Doubt i q) h.1)
     (λ f. shaped_pending layout site past h.0 p f) e
 shaped_pending layout site (Route txn want min at choice ∷ past) h p e = shaped_pending layout site past h.0 p e
 shaped_pending layout site (Reply session number said ∷ past) h p e = shaped_pending layout site past h.0 p e
