@@ -38,11 +38,13 @@ epoch_is : (p q : Placing) (n : ℕ) → p ≡ q → epoch_now p ≤ n → epoch
 epoch_is p q n e h = let same : epoch_now p ≡ epoch_now q = ap epoch_now e in omega (arith, same, h)
 
 module _ (layout : Layout) (past : List Step) (few : (q : ℕ) → epoch_now (placing layout past q) ≤ length past) where
-  few_released : (site part epoch to p : ℕ) (vector : List ℕ) → epoch ≤ length past → epoch_now (cond (part == p) (Between site epoch to vector) (placing layout past p)) ≤ suc (length past)
+  few_released : (site part epoch to p : ℕ) (vector : List ℕ) → epoch ≤ length past
+      → epoch_now (cond (part == p) (Between site epoch to vector) (placing layout past p)) ≤ suc (length past)
   few_released site part epoch to p vector h =
       either (part == p) (Between site epoch to vector) (placing layout past p) (suc (length past)) (omega (arith, h)) (let f = few p in omega (arith, f))
 
-  few_granted : (site part epoch p : ℕ) → epoch ≤ suc (length past) → epoch_now (cond (part == p) (Granted site epoch) (placing layout past p)) ≤ suc (length past)
+  few_granted : (site part epoch p : ℕ) → epoch ≤ suc (length past) → epoch_now (cond (part == p) (Granted site epoch) (placing layout past p)) ≤ suc
+      (length past)
   few_granted site part epoch p h = either (part == p) (Granted site epoch) (placing layout past p) (suc (length past)) h (let f = few p in omega (arith, f))
 
   -- a pending step that is kept raises an epoch by one at most
@@ -50,19 +52,23 @@ module _ (layout : Layout) (past : List Step) (few : (q : ℕ) → epoch_now (pl
       → epoch_now (after_acts p (option_to_list (option_map (step_of site) o)) (placing layout past p)) ≤ suc (length past)
   few_kept site p None h = let f = few p in omega (arith, f)
   few_kept site p (Some (pending.Commit e)) h = let f = few p in omega (arith, f)
-  few_kept site p (Some (pending.Release part epoch to vector)) h = few_released site part epoch to p vector (epoch_is (placing layout past part) (Asked site epoch to) (length past) h.asked (few part))
+  few_kept site p (Some (pending.Release part epoch to vector)) h = few_released site part epoch to p vector
+      (epoch_is (placing layout past part) (Asked site epoch to) (length past) h.asked (few part))
   few_kept site p (Some (pending.Grant part epoch vector)) h =
-      few_granted site part epoch p (let f = epoch_is (placing layout past part) (Between h.from h.old site vector) (length past) h.between (few part) in let g = h.next in omega (arith, f, g))
+      few_granted site part epoch p (let f = epoch_is (placing layout past part) (Between h.from h.old site vector) (length past) h.between (few part) in
+          let g = h.next in omega (arith, f, g))
 
 -- there are no more epochs than steps
 pub few_epochs : (layout : Layout) (past : List Step) → LegalPast layout past → (p : ℕ) → epoch_now (placing layout past p) ≤ length past
 few_epochs layout [] h p = omega arith
 few_epochs layout (Ask part epoch to txn ∷ past) h p =
     let f = few_epochs layout past h.0 p in
-    either (part == p) (asked (placing layout past p) to) (placing layout past p) (suc (length past)) (let e = epoch_asked (placing layout past p) to in omega (arith, e, f)) (omega (arith, f))
+    either (part == p) (asked (placing layout past p) to) (placing layout past p) (suc (length past))
+        (let e = epoch_asked (placing layout past p) to in omega (arith, e, f)) (omega (arith, f))
 few_epochs layout (Settle part epoch ∷ past) h p =
     let f = few_epochs layout past h.0 p in
-    either (part == p) (settled (placing layout past p)) (placing layout past p) (suc (length past)) (let e = epoch_settled (placing layout past p) in omega (arith, e, f)) (omega (arith, f))
+    either (part == p) (settled (placing layout past p)) (placing layout past p) (suc (length past))
+        (let e = epoch_settled (placing layout past p) in omega (arith, e, f)) (omega (arith, f))
 few_epochs layout (Release site part epoch to vector ∷ past) h p =
     let legal = legal_release layout past site part epoch to vector h.1 in
     few_released layout past (few_epochs layout past h.0) site part epoch to p vector

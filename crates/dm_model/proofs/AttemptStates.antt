@@ -19,8 +19,15 @@ item_routing c past = last_routing c (since (is_reply c) past)
 -- ---- a session that stands routed
 
 -- by a Route to this site by this choice, which is both the session's last and the current item's
-abbrev pub RoutedBy : AttemptState → Option Routing → Option Routing → Type 0
-RoutedBy (stands.Routed site choice) last item = (r : Routing) × (last ≡ Some r) × (item ≡ Some r) × (r.site ≡ site) × (r.choice ≡ choice)
+record ByRoute (site : ℕ) (choice : Choice) (last item : Option Routing) : Type 0 where
+  route : Routing
+  is_last : last ≡ Some route
+  is_item : item ≡ Some route
+  at_site : route.site ≡ site
+  chosen : route.choice ≡ choice
+
+abbrev RoutedBy : AttemptState → Option Routing → Option Routing → Type 0
+RoutedBy (stands.Routed site choice) last item = ByRoute site choice last item
 RoutedBy other last item = Unit {0}
 
 routed_dropped : (site : ℕ) (st : AttemptState) (last item : Option Routing) → RoutedBy st last item → RoutedBy (dropped_at site st) last item
@@ -31,7 +38,7 @@ routed_dropped site (stands.Running k) last item h = by (k == site)
     by false = tt
 routed_dropped site other last item h = h
 
-pub routed_by : (c : ℕ) (past : List Step) → RoutedBy (state c past) (last_routing c past) (item_routing c past)
+routed_by : (c : ℕ) (past : List Step) → RoutedBy (state c past) (last_routing c past) (item_routing c past)
 routed_by c [] = tt
 routed_by c (Route txn want min site choice ∷ past) = by (txn.session == c) (routed_by c past)
   where
@@ -39,21 +46,29 @@ routed_by c (Route txn want min site choice ∷ past) = by (txn.session == c) (r
     route = record { txn = txn; want = want; min = min; site = site; choice = choice }
 
     by : (b : Bool) → RoutedBy (state c past) (last_routing c past) (item_routing c past)
-        → RoutedBy (unwrap_or (if b then Some (stands.Routed site choice) else None) (state c past)) (option_or (if b then Some route else None) (last_routing c past)) (option_or (if b then Some route else None) (item_routing c past))
-    by true h = (route, refl, refl, refl, refl)
+        → RoutedBy (unwrap_or (if b then Some (stands.Routed site choice) else None) (state c past))
+        (option_or (if b then Some route else None) (last_routing c past)) (option_or (if b then Some route else None) (item_routing c past))
+    by true h = record { route = route; is_last = refl; is_item = refl; at_site = refl; chosen = refl }
     by false h = h
 routed_by c (Reply session number said ∷ past) = by (session == c) (routed_by c past)
   where
     by : (b : Bool) → RoutedBy (state c past) (last_routing c past) (item_routing c past)
-        → RoutedBy (unwrap_or (if b then Some stands.Unrouted else None) (state c past)) (last_routing c past) (last_routing c (if b then [] else Reply session number said ∷ since (is_reply c) past))
+        → RoutedBy (unwrap_or (if b then Some stands.Unrouted else None) (state c past)) (last_routing c past)
+        (last_routing c (if b then [] else Reply session number said ∷ since (is_reply c) past))
     by true h = tt
     by false h = h
-routed_by c (Moved site txn ∷ past) = state_or (λ st. RoutedBy st (last_routing c past) (item_routing c past)) (txn.session == c) stands.Moved (state c past) (λ e. tt) (λ e. routed_by c past)
-routed_by c (Begin site txn begin ∷ past) = state_or (λ st. RoutedBy st (last_routing c past) (item_routing c past)) (txn.session == c) (stands.Running site) (state c past) (λ e. tt) (λ e. routed_by c past)
-routed_by c (Commit e ∷ past) = state_or (λ st. RoutedBy st (last_routing c past) (item_routing c past)) (e.txn.session == c) (stands.Committed e.origin e.seq) (state c past) (λ e. tt) (λ e. routed_by c past)
-routed_by c (End site txn ops reads ∷ past) = state_or (λ st. RoutedBy st (last_routing c past) (item_routing c past)) (txn.session == c) (stands.Ended site) (state c past) (λ e. tt) (λ e. routed_by c past)
-routed_by c (Fail site txn cause ∷ past) = state_or (λ st. RoutedBy st (last_routing c past) (item_routing c past)) (txn.session == c) (stands.Failed cause) (state c past) (λ e. tt) (λ e. routed_by c past)
-routed_by c (Doubt site (pending.Commit e) ∷ past) = state_or (λ st. RoutedBy st (last_routing c past) (item_routing c past)) (e.txn.session == c) (stands.Doubted site) (dropped_at site (state c past)) (λ e. tt) (λ e. routed_dropped site (state c past) _ _ (routed_by c past))
+routed_by c (Moved site txn ∷ past) = state_or (λ st. RoutedBy st (last_routing c past) (item_routing c past)) (txn.session == c) stands.Moved (state c past)
+    (λ e. tt) (λ e. routed_by c past)
+routed_by c (Begin site txn begin ∷ past) = state_or (λ st. RoutedBy st (last_routing c past) (item_routing c past)) (txn.session == c) (stands.Running site)
+    (state c past) (λ e. tt) (λ e. routed_by c past)
+routed_by c (Commit e ∷ past) = state_or (λ st. RoutedBy st (last_routing c past) (item_routing c past)) (e.txn.session == c) (stands.Committed e.origin e.seq)
+    (state c past) (λ e. tt) (λ e. routed_by c past)
+routed_by c (End site txn ops reads ∷ past) = state_or (λ st. RoutedBy st (last_routing c past) (item_routing c past)) (txn.session == c) (stands.Ended site)
+    (state c past) (λ e. tt) (λ e. routed_by c past)
+routed_by c (Fail site txn cause ∷ past) = state_or (λ st. RoutedBy st (last_routing c past) (item_routing c past)) (txn.session == c) (stands.Failed cause)
+    (state c past) (λ e. tt) (λ e. routed_by c past)
+routed_by c (Doubt site (pending.Commit e) ∷ past) = state_or (λ st. RoutedBy st (last_routing c past) (item_routing c past)) (e.txn.session == c)
+    (stands.Doubted site) (dropped_at site (state c past)) (λ e. tt) (λ e. routed_dropped site (state c past) _ _ (routed_by c past))
 routed_by c (Doubt site (pending.Release part epoch to vector) ∷ past) = routed_dropped site (state c past) _ _ (routed_by c past)
 routed_by c (Doubt site (pending.Grant part epoch vector) ∷ past) = routed_dropped site (state c past) _ _ (routed_by c past)
 routed_by c (Restart site vector found ∷ past) = routed_dropped site (state c past) _ _ (routed_by c past)
@@ -64,4 +79,4 @@ pub routed_tells : (c site : ℕ) (choice : Choice) (past : List Step) → state
     → (r : Routing) × (last_routing c past ≡ Some r) × (r.site ≡ site) × (r.choice ≡ choice) × ((attempt c past).txn ≡ Some r.txn)
 routed_tells c site choice past e =
     let h = subst (λ (x : AttemptState). RoutedBy x (last_routing c past) (item_routing c past)) e (routed_by c past) in
-    (h.0, h.1, h.3, h.4, ap (λ (o : Option Routing). option_map (λ r. r.txn) o) h.2)
+    (h.route, h.is_last, h.at_site, h.chosen, ap (λ (o : Option Routing). option_map (λ r. r.txn) o) h.is_item)

@@ -1,32 +1,22 @@
 -- What the clauses of a step say, where none of them fails.
-use Rattle.std.proofs.Common.{ℕ, ◌≡◌, Bool, true, false, ◌==◌, List, [], ◌∷◌, Option, Some, None, refl, ap, ◌∙◌}
+use Rattle.std.proofs.Common.{ℕ, ◌≡◌, Bool, true, false, List, [], ◌∷◌, Option, Some, None, refl, ap, ◌∙◌}
 use Rattle.std.proofs.lemmas.Bool.{eqb-true, false≢true}
 use Rattle.std.specs.List.{AllByRecursion as Each}
 use Rattle.std.specs.Option.{option_or}
-use Rattle.std.specs.Prelude.{option_map, reverse, is_some}
+use Rattle.std.specs.Prelude.{option_map, is_some}
 use Rattle.dm_event.specs.Layout.{Layout}
-use Rattle.dm_event.specs.Vectors.{at, first_above, raised, sites_to}
+use Rattle.dm_event.specs.Vectors.{sites_to}
 use Rattle.dm_event.specs.declared.step.Step.{Step}
 use Rattle.dm_event.specs.declared.step.TxnId.{TxnId}
 use Rattle.dm_event.specs.declared.why.Why.{Why}
-use Rattle.dm_event.specs.declared.why.Why.TheVariants as why
 use Rattle.dm_model.proofs.ListFacts.{found_holds}
-use Rattle.dm_model.specs.Acts.{entries}
-use Rattle.dm_model.specs.Clauses.{Clause, holds, first, at_site, none_of}
-use Rattle.dm_model.specs.Closed.{unclosed}
-use Rattle.dm_model.specs.Floors.{floor}
-use Rattle.dm_model.specs.Progress.{site_vector, entry_count}
+use Rattle.dm_model.specs.Clauses.{Clause, holds, first, at_site}
 use Rattle.dm_model.specs.Runs.{runs, run_site}
 
 -- neither gives anything
 pub none_parts : {X : Type 0} (a b : Option X) → option_or a b ≡ None → (a ≡ None) × (b ≡ None)
 none_parts None b h = (refl, h)
 none_parts (Some a) b h = absurd (cc (h))
-
--- each clause holds
-pub all_hold : (cs : List Clause) → first cs ≡ None → Each (λ c. c ≡ None) cs
-all_hold [] h = tt
-all_hold (c ∷ cs) h = (let p = none_parts c (first cs) h in (p.0, all_hold cs p.1))
 
 -- the test of a clause that holds passes
 pub holds_true : (t : Bool) (w : Why) → holds t w ≡ None → t ≡ true
@@ -44,17 +34,9 @@ at_due None site h k = absurd (false≢true h)
 at_due (Some i) site h k = ap (λ (x : ℕ). Some x) (eqb-true i site (holds_true _ _ k))
 
 -- the attempt runs at the site where it is due
-pub runs_due : (layout : Layout) (past : List Step) (t : TxnId) (site : ℕ) → is_some (run_site layout past t) ≡ true → at_site (run_site layout past t) site ≡ None → runs site t past ≡ true
+pub runs_due : (layout : Layout) (past : List Step) (t : TxnId) (site : ℕ) → is_some (run_site layout past t) ≡ true
+    → at_site (run_site layout past t) site ≡ None → runs site t past ≡ true
 runs_due layout past t site h k = found_holds (λ i. runs i t past) (sites_to layout.sites) site (at_due (run_site layout past t) site h k)
-
--- the clauses on a Restart's vector, where the second past has the kept step too
-abbrev pub vector_clauses : Layout → List Step → ℕ → List ℕ → List Step → List Clause
-vector_clauses layout past site vector kept =
-    holds (at vector site == entry_count site kept) (why.NotDue (entry_count site kept))
-    ∷ none_of (first_above (floor layout.sites kept site) vector) why.Behind
-    ∷ none_of (first_above vector (raised (site_vector layout.sites past site) site (entry_count site kept))) why.Ahead
-    ∷ none_of {X = ℕ × ℕ} (option_map (λ e. (e.origin, e.seq)) (unclosed vector (reverse (entries kept)))) (λ entry. why.NotClosed entry.0 entry.1)
-    ∷ []
 
 -- where each clause holds, none gives a reason
 pub first_none : (cs : List Clause) → Each (λ c. c ≡ None) cs → first cs ≡ None

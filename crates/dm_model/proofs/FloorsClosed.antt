@@ -1,5 +1,6 @@
 -- In every legal past the floor of each site is closed.
-use Rattle.std.proofs.Common.{ℕ, zero, suc, ◌<◌, ◌≤◌, ◌≡◌, ◌≢◌, Bool, true, false, ◌==◌, if◌then◌else◌, List, [], ◌∷◌, ◌++◌, Option, Some, None, length, map, refl, sym, ap, ◌∙◌, subst, arith, inl, inr, ◌⊎◌, unwrap_or, le_trans}
+use Rattle.std.proofs.Common.{ℕ, zero, suc, ◌<◌, ◌≤◌, ◌≡◌, ◌≢◌, Bool, true, false, ◌==◌, if◌then◌else◌, List, [], ◌∷◌, ◌++◌, Option, Some, None, length, map}
+use Rattle.std.proofs.Common.{refl, sym, ap, ◌∙◌, subst, arith, inl, inr, ◌⊎◌, unwrap_or, le_trans}
 use Rattle.std.proofs.lemmas.Bool.{cases_eq, eqb-true, eqb-false, false≢true, cases_lt}
 use Rattle.std.specs.List.{AllByRecursion as Each, cons_option}
 use Rattle.std.specs.Option.{option_or}
@@ -86,7 +87,8 @@ pub record Firm (count : ℕ) (d : Deeds) : Type 0 where
 abbrev pub FirmPast : Layout → List Step → Type 0
 FirmPast layout past = Firm layout.sites (deeds layout past)
 
-by_part : (b : Bool) (x y : Placing) (P : List ℕ → Type 0) → ((k l m : ℕ) (v : List ℕ) → x ≡ Between k l m v → P v) → ((k l m : ℕ) (v : List ℕ) → y ≡ Between k l m v → P v)
+by_part : (b : Bool) (x y : Placing) (P : List ℕ → Type 0) → ((k l m : ℕ) (v : List ℕ) → x ≡ Between k l m v → P v)
+    → ((k l m : ℕ) (v : List ℕ) → y ≡ Between k l m v → P v)
     → (k l m : ℕ) (v : List ℕ) → (if b then x else y) ≡ Between k l m v → P v
 by_part true x y P f g = f
 by_part false x y P f g = g
@@ -95,7 +97,8 @@ module _ (layout : Layout) (past : List Step) (n : SoundPast layout past) (s : F
   firm_doubt : (site : ℕ) (p : Pending) → DoubtClosed (entries past) (Some p) → FirmPast layout (Doubt site p ∷ past)
   firm_doubt site p f = record { acts = s.acts; between = s.between; held = λ i h. by_site i (site == i) h }
     where
-      by_site : (i : ℕ) (b : Bool) → unwrap_or (option_or (if b then Some true else None) (latest (down_after i) past)) false ≡ true → DoubtClosed (entries past) (option_or (if b then Some p else None) (pending_at i past))
+      by_site : (i : ℕ) (b : Bool) → unwrap_or (option_or (if b then Some true else None) (latest (down_after i) past)) false ≡ true
+          → DoubtClosed (entries past) (option_or (if b then Some p else None) (pending_at i past))
       by_site i true h = f
       by_site i false h = s.held i h
 
@@ -103,36 +106,54 @@ module _ (layout : Layout) (past : List Step) (n : SoundPast layout past) (s : F
   rise site k o r = elim (ran (site == k) false o r) [ inl q ↦ absurd (false≢true q.now) | inr q ↦ q.before ]
 
   -- an entry comes
-  firm_entry : (e : Entry) (down' : ℕ → Bool) → Numbered (e ∷ entries past) → ClosedBy (entries past) (at e.begin) → ((i : ℕ) → down' i ≡ true → is_down i past ≡ true)
+  firm_entry : (e : Entry) (down' : ℕ → Bool) → Numbered (e ∷ entries past) → ClosedBy (entries past) (at e.begin)
+      → ((i : ℕ) → down' i ≡ true → is_down i past ≡ true)
       → Firm layout.sites (record (deeds layout past) { entries = e ∷ entries past; acts = Commit e ∷ acts past; down = down' })
   firm_entry e down' q c d = record {
-    acts = (closed_more e (entries past) (at e.begin) q c, each_map (ActClosed layout.sites (entries past)) (ActClosed layout.sites (e ∷ entries past)) (act_more layout.sites e (entries past) q) (acts past) s.acts);
+    acts = (
+      closed_more e (entries past) (at e.begin) q c,
+      each_map (ActClosed layout.sites (entries past)) (ActClosed layout.sites (e ∷ entries past))
+          (act_more layout.sites e (entries past) q) (acts past) s.acts,
+    );
     between = λ p x y z v h. closed_more e (entries past) (at v) q (s.between p x y z v h);
     held = λ i h. doubt_more e (entries past) q (pending_at i past) (s.held i (d i h));
   }
 
   firm_release : (site part epoch to : ℕ) (v : List ℕ) (down' : ℕ → Bool) → ClosedBy (entries past) (at v) → ((i : ℕ) → down' i ≡ true → is_down i past ≡ true)
       → Firm layout.sites
-      (record (deeds layout past) { acts = Release site part epoch to v ∷ acts past; placing = λ p. if part == p then Between site epoch to v else placing layout past p; down = down' })
+      (record (deeds layout past) {
+        acts = Release site part epoch to v ∷ acts past;
+        placing = λ p. if part == p then Between site epoch to v
+            else placing layout past p;
+        down = down';
+      })
   firm_release site part epoch to v down' c d = record {
     acts = (tt, s.acts);
-    between = λ p. by_part (part == p) (Between site epoch to v) (placing layout past p) (λ w. ClosedBy (entries past) (at w)) (λ k l x w e. subst (λ (u : List ℕ). ClosedBy (entries past) (at u)) (cc (e)) c) (s.between p);
+    between = λ p. by_part (part == p) (Between site epoch to v) (placing layout past p) (λ w. ClosedBy (entries past) (at w))
+        (λ k l x w e. subst (λ (u : List ℕ). ClosedBy (entries past) (at u)) (cc (e)) c) (s.between p);
     held = λ i h. s.held i (d i h);
   }
 
-  firm_grant : (site part epoch : ℕ) (v : List ℕ) (down' : ℕ → Bool) → length v ≡ layout.sites → ClosedBy (entries past) (at v) → ((i : ℕ) → down' i ≡ true → is_down i past ≡ true)
+  firm_grant : (site part epoch : ℕ) (v : List ℕ) (down' : ℕ → Bool) → length v ≡ layout.sites → ClosedBy (entries past) (at v)
+      → ((i : ℕ) → down' i ≡ true → is_down i past ≡ true)
       → Firm layout.sites
-      (record (deeds layout past) { acts = Grant site part epoch v ∷ acts past; placing = λ p. if part == p then Granted site epoch else placing layout past p; down = down' })
+      (record (deeds layout past) {
+        acts = Grant site part epoch v ∷ acts past;
+        placing = λ p. if part == p then Granted site epoch else placing layout past p;
+        down = down';
+      })
   firm_grant site part epoch v down' long c d = record {
     acts = (record { long = long; closed = c }, s.acts);
-    between = λ p. by_part (part == p) (Granted site epoch) (placing layout past p) (λ w. ClosedBy (entries past) (at w)) (λ k l x w e. absurd (cc (e))) (s.between p);
+    between = λ p. by_part (part == p) (Granted site epoch) (placing layout past p) (λ w. ClosedBy (entries past) (at w)) (λ k l x w e. absurd (cc (e)))
+        (s.between p);
     held = λ i h. s.held i (d i h);
   }
 
   commit_closed : (e : Entry) → LegalCommit layout past e → ClosedBy (entries past) (at e.begin)
   commit_closed e legal =
       let r = n.running e.origin e.txn legal.runs in
-      subst (λ (u : List ℕ). ClosedBy (entries past) (at u)) (sym (legal.began ∙ ap (λ (o : Option (List ℕ)). unwrap_or o []) r.is)) (n.begins e.txn r.begin r.is)
+      subst (λ (u : List ℕ). ClosedBy (entries past) (at u)) (sym (legal.began ∙ ap (λ (o : Option (List ℕ)). unwrap_or o []) r.is))
+      (n.begins e.txn r.begin r.is)
 
   -- after a Restart that keeps the pending step
   abbrev kept_deeds : ℕ → List ℕ → Option Pending → Deeds
@@ -148,19 +169,23 @@ module _ (layout : Layout) (past : List Step) (n : SoundPast layout past) (s : F
       → Numbered (kept_deeds site vector o).entries → Firm layout.sites (kept_deeds site vector o)
   firm_kept site vector None l f q = record { acts = s.acts; between = s.between; held = λ i h. s.held i (rise site i _ h) }
   firm_kept site vector (Some (pending.Commit e)) l f q = firm_entry e (λ i. is_down i (Restart site vector Kept ∷ past)) q f (λ i h. rise site i _ h)
-  firm_kept site vector (Some (pending.Release part epoch to v)) l f q = firm_release site part epoch to v (λ i. is_down i (Restart site vector Kept ∷ past)) f (λ i h. rise site i _ h)
-  firm_kept site vector (Some (pending.Grant part epoch v)) l f q = firm_grant site part epoch v (λ i. is_down i (Restart site vector Kept ∷ past)) l f (λ i h. rise site i _ h)
+  firm_kept site vector (Some (pending.Release part epoch to v)) l f q =
+      firm_release site part epoch to v (λ i. is_down i (Restart site vector Kept ∷ past)) f (λ i h. rise site i _ h)
+  firm_kept site vector (Some (pending.Grant part epoch v)) l f q = firm_grant site part epoch v (λ i. is_down i (Restart site vector Kept ∷ past)) l f (λ i h.
+      rise site i _ h)
 
   pub firm_step : (st : Step) → Allowed layout past st → FirmPast layout (st ∷ past)
   firm_step (Ask part epoch to txn) h = record {
     acts = s.acts;
     held = s.held;
-    between = λ p. by_part (part == p) (asked (placing layout past p) to) (placing layout past p) (λ w. ClosedBy (entries past) (at w)) (λ k l x w e. s.between p k l x w (asked_between (placing layout past p) to k l x w e)) (s.between p);
+    between = λ p. by_part (part == p) (asked (placing layout past p) to) (placing layout past p) (λ w. ClosedBy (entries past) (at w))
+        (λ k l x w e. s.between p k l x w (asked_between (placing layout past p) to k l x w e)) (s.between p);
   }
   firm_step (Settle part epoch) h = record {
     acts = s.acts;
     held = s.held;
-    between = λ p. by_part (part == p) (settled (placing layout past p)) (placing layout past p) (λ w. ClosedBy (entries past) (at w)) (λ k l x w e. s.between p k l x w (settled_between (placing layout past p) k l x w e)) (s.between p);
+    between = λ p. by_part (part == p) (settled (placing layout past p)) (placing layout past p) (λ w. ClosedBy (entries past) (at w))
+        (λ k l x w e. s.between p k l x w (settled_between (placing layout past p) k l x w e)) (s.between p);
   }
   firm_step (Commit e) h =
       firm_entry e (λ i. is_down i past) (sound_step layout past (Commit e) n h).numbered (commit_closed e (legal_commit layout past e h)) (λ i d. d)
@@ -181,7 +206,8 @@ module _ (layout : Layout) (past : List Step) (n : SoundPast layout past) (s : F
   firm_step (Restart site vector Lost) h = record { acts = s.acts; between = s.between; held = λ i d. s.held i (rise site i _ d) }
   firm_step (Restart site vector Kept) h =
       let legal = legal_restart layout past site vector Kept h in
-      firm_kept site vector (pending_at site past) (n.in_doubt site legal.fits) (s.held site legal.fits) (sound_step layout past (Restart site vector Kept) n h).numbered
+      firm_kept site vector (pending_at site past) (n.in_doubt site legal.fits) (s.held site legal.fits)
+      (sound_step layout past (Restart site vector Kept) n h).numbered
   firm_step other h = s
 
 pub firm_past : (layout : Layout) (past : List Step) → LegalPast layout past → FirmPast layout past
@@ -194,31 +220,42 @@ abbrev joined : ℕ → ℕ → List Step → ℕ → ℕ
 joined count i ds j = at (join_all count (filter_map (floor_vector i) ds)) j
 
 -- inside a join is inside one of the vectors
-inside_join : (count : ℕ) (x : List ℕ) (vs : List (List ℕ)) (k o : ℕ) → 1 ≤ k → k ≤ at (join_all count (x ∷ vs)) o → (k ≤ at x o) ⊎ (k ≤ at (join_all count vs) o)
+inside_join : (count : ℕ) (x : List ℕ) (vs : List (List ℕ)) (k o : ℕ) → 1 ≤ k → k ≤ at (join_all count (x ∷ vs)) o → (k ≤ at x o)
+    ⊎ (k ≤ at (join_all count vs) o)
 inside_join count x vs k zero one h = absurd (omega arith)
 inside_join count x vs k (suc o) one h = elim (cases_lt o count) [
-  | inl c ↦ (let a = at_by count (λ site. greatest (map (λ v. at v site) (x ∷ vs))) (suc o) (omega arith) (omega arith) in let d = at_by count (λ site. greatest (map (λ v. at v site) vs)) (suc o) (omega arith) (omega arith) in
+  | inl c ↦ (let a = at_by count (λ site. greatest (map (λ v. at v site) (x ∷ vs))) (suc o) (omega arith) (omega arith) in let d =
+      at_by count (λ site. greatest (map (λ v. at v site) vs)) (suc o) (omega arith) (omega arith) in
       elim (cases_lt (at x (suc o)) k) [ inl p ↦ inr (omega arith) | inr p ↦ inl p ])
-  | inr c ↦ absurd (let a = at_past (join_all count (x ∷ vs)) (suc o) (let y = long_by count (λ site. greatest (map (λ v. at v site) (x ∷ vs))) in omega arith) in omega arith)
+  | inr c ↦ absurd (let a = at_past (join_all count (x ∷ vs)) (suc o) (let y = long_by count (λ site. greatest (map (λ v. at v site) (x ∷ vs))) in omega arith)
+      in omega arith)
 ]
 
-by_cons : (b : Bool) (x : List ℕ) (vs : List (List ℕ)) (P : List (List ℕ) → Type 0) → (b ≡ true → P (x ∷ vs)) → (b ≡ false → P vs) → P (cons_option (if b then Some x else None) vs)
+by_cons : (b : Bool) (x : List ℕ) (vs : List (List ℕ)) (P : List (List ℕ) → Type 0) → (b ≡ true → P (x ∷ vs)) → (b ≡ false → P vs)
+    → P (cons_option (if b then Some x else None) vs)
 by_cons true x vs P f g = f refl
 by_cons false x vs P f g = g refl
 
 -- an own entry's commit vector is inside the floor
-own_inside : (count i : ℕ) (ds : List Step) → Each (λ e. length e.begin ≡ count) (filter_map entry_of ds) → Each (λ e. e.origin ≡ i → (j : ℕ) → at (commit_vector e) j ≤ joined count i ds j) (filter_map entry_of ds)
+own_inside : (count i : ℕ) (ds : List Step) → Each (λ e. length e.begin ≡ count) (filter_map entry_of ds)
+    → Each (λ e. e.origin ≡ i → (j : ℕ) → at (commit_vector e) j ≤ joined count i ds j) (filter_map entry_of ds)
 own_inside count i [] l = tt
 own_inside count i (Commit e ∷ ds) l = (
   (λ o j. by_cons (e.origin == i) (commit_vector e) (filter_map (floor_vector i) ds) (λ vs. at (commit_vector e) j ≤ at (join_all count vs) j)
-      (λ t. join_has count (commit_vector e) (filter_map (floor_vector i) ds) (long_raised e.begin e.origin e.seq ∙ l.0) j) (λ t. absurd (eqb-false e.origin i t o))),
-  each_map (λ d. d.origin ≡ i → (j : ℕ) → at (commit_vector d) j ≤ joined count i ds j) (λ d. d.origin ≡ i → (j : ℕ) → at (commit_vector d) j ≤ joined count i (Commit e ∷ ds) j)
-      (λ d h o j. le_trans (h o j) (by_cons (e.origin == i) (commit_vector e) (filter_map (floor_vector i) ds) (λ vs. joined count i ds j ≤ at (join_all count vs) j) (λ t. join_keeps count (commit_vector e) (filter_map (floor_vector i) ds) j) (λ t. omega arith)))
+      (λ t. join_has count (commit_vector e) (filter_map (floor_vector i) ds) (long_raised e.begin e.origin e.seq ∙ l.0) j)
+      (λ t. absurd (eqb-false e.origin i t o))),
+  each_map (λ d. d.origin ≡ i → (j : ℕ) → at (commit_vector d) j ≤ joined count i ds j)
+      (λ d. d.origin ≡ i → (j : ℕ) → at (commit_vector d) j ≤ joined count i (Commit e ∷ ds) j)
+      (λ d h o j. le_trans (h o j) (by_cons (e.origin == i) (commit_vector e) (filter_map (floor_vector i) ds)
+      (λ vs. joined count i ds j ≤ at (join_all count vs) j) (λ t. join_keeps count (commit_vector e) (filter_map (floor_vector i) ds) j)
+      (λ t. omega arith)))
       (filter_map entry_of ds) (own_inside count i ds l.1),
 )
 own_inside count i (Grant site part epoch v ∷ ds) l =
-    each_map (λ d. d.origin ≡ i → (j : ℕ) → at (commit_vector d) j ≤ joined count i ds j) (λ d. d.origin ≡ i → (j : ℕ) → at (commit_vector d) j ≤ joined count i (Grant site part epoch v ∷ ds) j)
-    (λ d h o j. le_trans (h o j) (by_cons (site == i) v (filter_map (floor_vector i) ds) (λ vs. joined count i ds j ≤ at (join_all count vs) j) (λ t. join_keeps count v (filter_map (floor_vector i) ds) j) (λ t. omega arith)))
+    each_map (λ d. d.origin ≡ i → (j : ℕ) → at (commit_vector d) j ≤ joined count i ds j)
+    (λ d. d.origin ≡ i → (j : ℕ) → at (commit_vector d) j ≤ joined count i (Grant site part epoch v ∷ ds) j)
+    (λ d h o j. le_trans (h o j) (by_cons (site == i) v (filter_map (floor_vector i) ds) (λ vs. joined count i ds j ≤ at (join_all count vs) j)
+    (λ t. join_keeps count v (filter_map (floor_vector i) ds) j) (λ t. omega arith)))
     (filter_map entry_of ds) (own_inside count i ds l)
 own_inside count i (s ∷ ds) l = own_inside count i ds l
 
@@ -231,11 +268,13 @@ pub record Around (count : ℕ) (e : Entry) : Type 0 where
 
 begin_below : (count : ℕ) (e : Entry) → Around count e → (j : ℕ) → at e.begin j ≤ at (commit_vector e) j
 begin_below count e a j = elim (cases_eq j e.origin) [
-  | inl p ↦ subst (λ (x : ℕ). at e.begin x ≤ at (commit_vector e) x) (sym p) (let x = at_raised_own e.begin e.origin e.seq a.one a.in' in let y = a.own in omega arith)
+  | inl p ↦ subst (λ (x : ℕ). at e.begin x ≤ at (commit_vector e) x) (sym p)
+      (let x = at_raised_own e.begin e.origin e.seq a.one a.in' in let y = a.own in omega arith)
   | inr q ↦ (let x = at_raised_other e.begin e.origin e.seq j a.one q in omega arith)
 ]
 
-around_all : (layout : Layout) (es : List Entry) → Numbered es → Grounded layout es → Each (λ e. length e.begin ≡ layout.sites) es → Each (Around layout.sites) es
+around_all : (layout : Layout) (es : List Entry) → Numbered es → Grounded layout es → Each (λ e. length e.begin ≡ layout.sites) es
+    → Each (Around layout.sites) es
 around_all layout [] n g l = tt
 around_all layout (e ∷ es) n g l =
     let top = g.0.site.top in
@@ -250,15 +289,18 @@ seq_all (e ∷ es) n = ((let m = n.0.seq in omega (arith, m)), seq_all es n.1)
 abbrev Rule : List Entry → Entry → Type 0
 Rule es d = (w : List ℕ) → ClosedBy es (at w) → d.seq ≤ at w d.origin → (j : ℕ) → at d.begin j ≤ at w j
 
-rule_all : (es xs : List Entry) → ((w : List ℕ) → ClosedBy es (at w) → Each (λ d. d.seq ≤ at w d.origin → (j : ℕ) → at d.begin j ≤ at w j) xs) → Each (Rule es) xs
+rule_all : (es xs : List Entry) → ((w : List ℕ) → ClosedBy es (at w) → Each (λ d. d.seq ≤ at w d.origin → (j : ℕ) → at d.begin j ≤ at w j) xs)
+    → Each (Rule es) xs
 rule_all es [] h = tt
 rule_all es (x ∷ xs) h = ((λ w c. (h w c).0), rule_all es xs (λ w c. (h w c).1))
 
-other_inside : (es : List Entry) (count i : ℕ) (d : Entry) → 1 ≤ d.seq → d.origin ≢ i → Rule es d → (ds : List Step) → Each (ActClosed count es) ds → Each (Around count) (filter_map entry_of ds)
+other_inside : (es : List Entry) (count i : ℕ) (d : Entry) → 1 ≤ d.seq → d.origin ≢ i → Rule es d → (ds : List Step) → Each (ActClosed count es) ds
+    → Each (Around count) (filter_map entry_of ds)
     → d.seq ≤ joined count i ds d.origin → (j : ℕ) → at d.begin j ≤ joined count i ds j
 other_inside es count i d one ne r [] a l h j = absurd (let x = at_by_below count (λ site. greatest (map (λ v. at v site) [])) d.origin in omega arith)
 other_inside es count i d one ne r (Commit e ∷ ds) a l h j =
-    by_cons (e.origin == i) (commit_vector e) (filter_map (floor_vector i) ds) (λ vs. d.seq ≤ at (join_all count vs) d.origin → at d.begin j ≤ at (join_all count vs) j)
+    by_cons (e.origin == i) (commit_vector e) (filter_map (floor_vector i) ds)
+    (λ vs. d.seq ≤ at (join_all count vs) d.origin → at d.begin j ≤ at (join_all count vs) j)
     (λ t k. elim (inside_join count (commit_vector e) (filter_map (floor_vector i) ds) d.seq d.origin one k) [
       | inl p ↦ (
           let o = eqb-true e.origin i t in
@@ -289,12 +331,15 @@ floor_closed layout past h i =
     let around = around_all layout (entries past) n.numbered (grounded_past layout past h) n.sized in
     record {
       within = λ j. le_trans (m.floored i j) ((n.closed i).within j);
-      begun = by_each (entries past) (rule_all (entries past) (entries past) (λ w c. c.begun)) (own_inside layout.sites i (acts past) n.sized) around (seq_all (entries past) n.numbered)
+      begun = by_each (entries past) (rule_all (entries past) (entries past) (λ w c. c.begun)) (own_inside layout.sites i (acts past) n.sized) around
+          (seq_all (entries past) n.numbered)
           (λ d one ne r. other_inside (entries past) layout.sites i d one ne r (acts past) f.acts around);
     }
   where
-    by_each : (xs : List Entry) → Each (Rule (entries past)) xs → Each (λ e. e.origin ≡ i → (j : ℕ) → at (commit_vector e) j ≤ floor_at layout past i j) xs → Each (Around layout.sites) xs → Each (λ e. 1 ≤ e.seq) xs
-        → ((d : Entry) → 1 ≤ d.seq → d.origin ≢ i → Rule (entries past) d → d.seq ≤ floor_at layout past i d.origin → (j : ℕ) → at d.begin j ≤ floor_at layout past i j)
+    by_each : (xs : List Entry) → Each (Rule (entries past)) xs → Each (λ e. e.origin ≡ i → (j : ℕ) → at (commit_vector e) j ≤ floor_at layout past i j) xs
+        → Each (Around layout.sites) xs → Each (λ e. 1 ≤ e.seq) xs
+        → ((d : Entry) → 1 ≤ d.seq → d.origin ≢ i → Rule (entries past) d → d.seq ≤ floor_at layout past i d.origin → (j : ℕ)
+        → at d.begin j ≤ floor_at layout past i j)
         → Each (λ e. e.seq ≤ floor_at layout past i e.origin → (j : ℕ) → at e.begin j ≤ floor_at layout past i j) xs
     by_each [] r o a q g = tt
     by_each (d ∷ ds) r o a q g = (

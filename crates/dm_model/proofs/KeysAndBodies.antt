@@ -1,5 +1,6 @@
 -- Sets of keys, and what a body writes.
-use Rattle.std.proofs.Common.{ℕ, ℤ, ◌≡◌, Bool, true, false, not, ◌==◌, nat_lt, if◌then◌else◌, List, [], ◌∷◌, None, map, refl, sym, ap, ◌∙◌, subst, inl, inr, ◌⊎◌}
+use Rattle.std.proofs.Common.{ℕ, ℤ, ◌≡◌, Bool, true, false, not, ◌==◌, nat_lt, if◌then◌else◌, List, [], ◌∷◌, None, map, refl, sym, ap, ◌∙◌, subst, inl, inr}
+use Rattle.std.proofs.Common.{◌⊎◌}
 use Rattle.std.proofs.lemmas.Bool.{eqb-true, eq-eqb, false≢true, and_parts, or_cases, or_left, or_right}
 use Rattle.std.specs.List.{AllByRecursion as Each, list_any}
 use Rattle.std.specs.Prelude.{filter_map}
@@ -49,7 +50,8 @@ has_put [] k v key h = elim (or_cases (k == key) false h) [ inl q ↦ inl (eqb-t
 has_put (p ∷ ps) k v key h = by_test (has_put ps k v key) (nat_lt p.key k) (p.key == k) refl h
   where
     by_test : (has_key (put ps k v) key ≡ true → (k ≡ key) ⊎ (has_key ps key ≡ true)) → (a b : Bool) → (p.key == k) ≡ b
-        → has_key (if a then p ∷ put ps k v else (if b then record { key = k; value = v } ∷ ps else record { key = k; value = v } ∷ (p ∷ ps))) key ≡ true → (k ≡ key) ⊎ (has_key (p ∷ ps) key ≡ true)
+        → has_key (if a then p ∷ put ps k v else (if b then record { key = k; value = v } ∷ ps else record { key = k; value = v } ∷ (p ∷ ps))) key ≡ true
+        → (k ≡ key) ⊎ (has_key (p ∷ ps) key ≡ true)
     by_test rest true b e g = elim (or_cases (p.key == key) (has_key (put ps k v) key) g) [
       | inl q ↦ inr (or_left (p.key == key) _ q)
       | inr q ↦ elim (rest q) [ inl r ↦ inl r | inr r ↦ inr (or_right (p.key == key) _ r) ]
@@ -57,7 +59,8 @@ has_put (p ∷ ps) k v key h = by_test (has_put ps k v key) (nat_lt p.key k) (p.
     by_test rest false true e g = elim (or_cases (k == key) (has_key ps key) g) [ inl q ↦ inl (eqb-true k key q) | inr q ↦ inr (or_right (p.key == key) _ q) ]
     by_test rest false false e g = elim (or_cases (k == key) (has_key (p ∷ ps) key) g) [ inl q ↦ inl (eqb-true k key q) | inr q ↦ inr q ]
 
-run_writes : (f : ℕ → ℤ) (ran : Ran) (ops : List Op) (key : ℕ) → has_key (run_from f ran ops).writes key ≡ true → (has_key ran.writes key ≡ true) ⊎ (is_among (filter_map written_key ops) key ≡ true)
+run_writes : (f : ℕ → ℤ) (ran : Ran) (ops : List Op) (key : ℕ) → has_key (run_from f ran ops).writes key ≡ true → (has_key ran.writes key ≡ true)
+    ⊎ (is_among (filter_map written_key ops) key ≡ true)
 run_writes f ran [] key h = inl h
 run_writes f ran (Read k ∷ ops) key h = run_writes f (after_op f ran (Read k)) ops key h
 run_writes f ran (Write k v ∷ ops) key h = elim (run_writes f (after_op f ran (Write k v)) ops key h) [
@@ -72,8 +75,10 @@ run_writes f ran (Add k b ∷ ops) key h = elim (run_writes f (after_op f ran (A
 pub body_writes : (f : ℕ → ℤ) (ops : List Op) (key : ℕ) → has_key (body ops f).writes key ≡ true → is_among (filter_map written_key ops) key ≡ true
 body_writes f ops key h = elim (run_writes f (record { reads = []; writes = [] }) ops key h) [ inl p ↦ absurd (false≢true p) | inr q ↦ q ]
 
-pub all_declared : (keys : List ℕ) (ops : List Op) → first_undeclared keys ops ≡ None → (key : ℕ) → is_among (filter_map written_key ops) key ≡ true → is_among keys key ≡ true
-all_declared keys ops h key m = by_not (is_among keys key) (each_among (λ k. not (is_among keys k) ≡ false) (filter_map written_key ops) key (find_none (λ k. not (is_among keys k)) (filter_map written_key ops) h) m)
+pub all_declared : (keys : List ℕ) (ops : List Op) → first_undeclared keys ops ≡ None → (key : ℕ) → is_among (filter_map written_key ops) key ≡ true
+    → is_among keys key ≡ true
+all_declared keys ops h key m = by_not (is_among keys key) (each_among (λ k. not (is_among keys k) ≡ false) (filter_map written_key ops) key
+    (find_none (λ k. not (is_among keys k)) (filter_map written_key ops) h) m)
   where
     by_not : (b : Bool) → not b ≡ false → b ≡ true
     by_not true e = refl

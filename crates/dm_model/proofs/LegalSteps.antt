@@ -1,6 +1,7 @@
 -- What a legal step of each kind has, by name. Only this file takes the clauses of a row in their order: in each proof here a λ names them as
 -- the row lists them, so that a further clause is one more name in one λ.
-use Rattle.std.proofs.Common.{ℕ, suc, ◌+◌, ◌≤◌, ◌≡◌, ◌≢◌, Bool, true, false, ◌==◌, nat_le, ◌&&◌, List, [], ◌∷◌, Option, Some, None, length, refl, sym, ap, ◌∙◌, arith}
+use Rattle.std.proofs.Common.{ℕ, suc, ◌+◌, ◌≤◌, ◌≡◌, ◌≢◌, Bool, true, false, ◌==◌, nat_le, ◌&&◌, List, [], ◌∷◌, Option, Some, None, length, refl, sym, ap, ◌∙◌}
+use Rattle.std.proofs.Common.{arith}
 use Rattle.std.proofs.Common.{inl, inr, ◌⊎◌}
 use Rattle.std.proofs.lemmas.Bool.{not-true, eqb-true, eqb-false, ne_eqb, not_from_false, false≢true, and_parts, and_from, or_cases, leb-true, le-leb}
 use Rattle.std.specs.Prelude.{option_map, option_and_then, reverse, is_some}
@@ -22,6 +23,7 @@ use Rattle.dm_event.specs.declared.step.TxnId.{TxnId}
 use Rattle.dm_event.specs.declared.step.Want.{Want}
 use Rattle.dm_event.specs.declared.why.Why.TheVariants as why
 use Rattle.dm_model.proofs.ClausesHold.{none_parts, holds_true, map_none, at_due, runs_due, first_none, holds_none}
+use Rattle.dm_model.proofs.Judged.{shape_of}
 use Rattle.dm_model.proofs.SameValues.{pairs_same}
 use Rattle.dm_model.proofs.StandingRoutes.{Stands, StandsForTxn, routed_stands, routed_txn_stands}
 use Rattle.dm_model.proofs.VectorFacts.{numbers_same}
@@ -67,15 +69,9 @@ given : (R : Type 0) (cs : List Clause) → Hold cs → Where cs R → R
 given R [] h f = f
 given R (c ∷ cs) h f = let p = parts c cs h in given R cs p.rest (f p.head)
 
-judged : (layout : Layout) (past : List Step) (s : Step) → Allowed layout past s → Parts (holds (is_shaped layout s) why.Shape) (clauses layout past s)
-judged layout past s h = parts (holds (is_shaped layout s) why.Shape) (clauses layout past s) (record { none = h })
-
--- a step that is allowed has its shape, and its row holds
-pub shaped : (layout : Layout) (past : List Step) (s : Step) → Allowed layout past s → is_shaped layout s ≡ true
-shaped layout past s h = holds_true (is_shaped layout s) why.Shape (judged layout past s h).head
-
+-- the row of a step that is allowed holds
 row_holds : (layout : Layout) (past : List Step) (s : Step) → Allowed layout past s → Hold (clauses layout past s)
-row_holds layout past s h = (judged layout past s h).rest
+row_holds layout past s h = (parts (holds (is_shaped layout s) why.Shape) (clauses layout past s) (record { none = h })).rest
 
 -- ---- what shapes say
 
@@ -114,7 +110,7 @@ pub record LegalRoute (layout : Layout) (past : List Step) (txn : TxnId) (want :
 pub legal_route : (layout : Layout) (past : List Step) (txn : TxnId) (want : Want) (min : List ℕ) (site : ℕ) (choice : Choice)
     → Allowed layout past (Route txn want min site choice) → LegalRoute layout past txn want min site choice
 legal_route layout past txn want min site choice h =
-    let rest = second (is_txn layout txn) _ (shaped layout past (Route txn want min site choice) h) in
+    let rest = second (is_txn layout txn) _ (shape_of layout past (Route txn want min site choice) h) in
     let parts = and_parts (is_want layout want) (is_vector layout min && is_site layout site) rest in
     given (LegalRoute layout past txn want min site choice) (route_clauses layout past txn want min site choice)
     (row_holds layout past (Route txn want min site choice) h)
@@ -162,7 +158,7 @@ legal_begin layout past site txn begin h =
     (λ routed at_site up here at_vector not_behind unheld.
     let s = routed_txn_stands past txn (holds_true _ _ routed) in
     record {
-      long = long_vector layout begin (third _ _ _ (shaped layout past (Begin site txn begin) h));
+      long = long_vector layout begin (third _ _ _ (shape_of layout past (Begin site txn begin) h));
       routed = s;
       at_site = routed_to past txn site s (at_due due site (holds_true _ _ routed) at_site);
       up = not-true (is_down site past) (holds_true _ _ up);
@@ -220,7 +216,7 @@ by_entry layout past e shape h =
     })
 
 pub legal_commit : (layout : Layout) (past : List Step) (e : Entry) → Allowed layout past (Commit e) → LegalCommit layout past e
-legal_commit layout past e h = by_entry layout past e (shaped layout past (Commit e) h) (row_holds layout past (Commit e) h)
+legal_commit layout past e h = by_entry layout past e (shape_of layout past (Commit e) h) (row_holds layout past (Commit e) h)
 
 pub record LegalEnd (layout : Layout) (past : List Step) (site : ℕ) (txn : TxnId) (ops : List Op) (reads : List Pair) : Type 0 where
   pub runs : runs site txn past ≡ true
@@ -272,7 +268,7 @@ there_is (Some x) h = record { it = x; is = refl }
 
 pub legal_refresh : (layout : Layout) (past : List Step) (site origin : ℕ) → Allowed layout past (Refresh site origin) → LegalRefresh layout past site origin
 legal_refresh layout past site origin h =
-    let shape = and_parts (is_site layout site) (is_site layout origin) (shaped layout past (Refresh site origin) h) in
+    let shape = and_parts (is_site layout site) (is_site layout origin) (shape_of layout past (Refresh site origin) h) in
     given (LegalRefresh layout past site origin) (refresh_clauses layout past site origin) (row_holds layout past (Refresh site origin) h)
     (λ other up next has.
     let n = there_is (next_entry layout past site origin) (holds_true _ _ next) in
@@ -323,7 +319,7 @@ pub record LegalRestart (layout : Layout) (past : List Step) (site : ℕ) (vecto
 pub legal_restart : (layout : Layout) (past : List Step) (site : ℕ) (vector : List ℕ) (found : Found) → Allowed layout past (Restart site vector found)
     → LegalRestart layout past site vector found
 legal_restart layout past site vector found h =
-    let shape = and_parts (is_site layout site) (is_vector layout vector) (shaped layout past (Restart site vector found) h) in
+    let shape = and_parts (is_site layout site) (is_vector layout vector) (shape_of layout past (Restart site vector found) h) in
     given (LegalRestart layout past site vector found) (restart_clauses layout past site vector found) (row_holds layout past (Restart site vector found) h)
     (λ fits own not_behind not_ahead closed. record {
       fits = holds_true _ _ fits;
@@ -436,14 +432,15 @@ by_release layout past site part epoch to vector there h =
       at_vector = numbers_same vector (site_vector layout.sites past site) (holds_true _ _ at_vector);
     })
 
-to_site : (layout : Layout) (site part to : ℕ) (vector : List ℕ) → (is_site layout site && (is_part layout part && (is_site layout to && is_vector layout vector))) ≡ true
+to_site : (layout : Layout) (site part to : ℕ) (vector : List ℕ) → (is_site layout site
+    && (is_part layout part && (is_site layout to && is_vector layout vector))) ≡ true
     → is_site layout to ≡ true
 to_site layout site part to vector h = (and_parts (is_site layout to) _ (third (is_site layout site) (is_part layout part) _ h)).0
 
 pub legal_release : (layout : Layout) (past : List Step) (site part epoch to : ℕ) (vector : List ℕ) → Allowed layout past (Release site part epoch to vector)
     → LegalRelease layout past site part epoch to vector
 legal_release layout past site part epoch to vector h =
-    by_release layout past site part epoch to vector (to_site layout site part to vector (shaped layout past (Release site part epoch to vector) h))
+    by_release layout past site part epoch to vector (to_site layout site part to vector (shape_of layout past (Release site part epoch to vector) h))
     (row_holds layout past (Release site part epoch to vector) h)
 
 pub record LegalGrant (layout : Layout) (past : List Step) (site part epoch : ℕ) (vector : List ℕ) : Type 0 where
@@ -457,7 +454,8 @@ pub record LegalGrant (layout : Layout) (past : List Step) (site part epoch : �
   pub up : is_down site past ≡ false
   pub not_ahead : first_above vector (site_vector layout.sites past site) ≡ None
 
-by_grant : (layout : Layout) (past : List Step) (site part epoch : ℕ) (vector : List ℕ) → (is_site layout site && (is_part layout part && is_vector layout vector)) ≡ true
+by_grant : (layout : Layout) (past : List Step) (site part epoch : ℕ) (vector : List ℕ)
+    → (is_site layout site && (is_part layout part && is_vector layout vector)) ≡ true
     → Hold (grant_clauses layout past site part epoch vector) → LegalGrant layout past site part epoch vector
 by_grant layout past site part epoch vector shape h =
     let now = by_between (placing layout past part) _ h in
@@ -479,7 +477,7 @@ by_grant layout past site part epoch vector shape h =
 pub legal_grant : (layout : Layout) (past : List Step) (site part epoch : ℕ) (vector : List ℕ) → Allowed layout past (Grant site part epoch vector)
     → LegalGrant layout past site part epoch vector
 legal_grant layout past site part epoch vector h =
-    by_grant layout past site part epoch vector (shaped layout past (Grant site part epoch vector) h)
+    by_grant layout past site part epoch vector (shape_of layout past (Grant site part epoch vector) h)
     (row_holds layout past (Grant site part epoch vector) h)
 
 pub record LegalSettle (layout : Layout) (past : List Step) (part epoch : ℕ) : Type 0 where
@@ -501,17 +499,19 @@ pub record DoubtedCommit (layout : Layout) (past : List Step) (site : ℕ) (e : 
 pub doubted_commit : (layout : Layout) (past : List Step) (site : ℕ) (e : Entry) → Allowed layout past (Doubt site (pending.Commit e))
     → DoubtedCommit layout past site e
 doubted_commit layout past site e h =
-    let shape = and_parts (is_entry layout e) (e.origin == site) (second (is_site layout site) _ (shaped layout past (Doubt site (pending.Commit e)) h)) in
+    let shape = and_parts (is_entry layout e) (e.origin == site) (second (is_site layout site) _ (shape_of layout past (Doubt site (pending.Commit e)) h)) in
     record { own = eqb-true e.origin site shape.1; commit = by_entry layout past e shape.0 (row_holds layout past (Doubt site (pending.Commit e)) h) }
 
 pub doubted_release : (layout : Layout) (past : List Step) (site part epoch to : ℕ) (vector : List ℕ)
     → Allowed layout past (Doubt site (pending.Release part epoch to vector)) → LegalRelease layout past site part epoch to vector
 doubted_release layout past site part epoch to vector h =
-    by_release layout past site part epoch to vector (to_site layout site part to vector (shaped layout past (Doubt site (pending.Release part epoch to vector)) h))
+    by_release layout past site part epoch to vector (to_site layout site part to vector
+    (shape_of layout past (Doubt site (pending.Release part epoch to vector)) h))
     (row_holds layout past (Doubt site (pending.Release part epoch to vector)) h)
 
-pub doubted_grant : (layout : Layout) (past : List Step) (site part epoch : ℕ) (vector : List ℕ) → Allowed layout past (Doubt site (pending.Grant part epoch vector))
+pub doubted_grant : (layout : Layout) (past : List Step) (site part epoch : ℕ) (vector : List ℕ)
+    → Allowed layout past (Doubt site (pending.Grant part epoch vector))
     → LegalGrant layout past site part epoch vector
 doubted_grant layout past site part epoch vector h =
-    by_grant layout past site part epoch vector (shaped layout past (Doubt site (pending.Grant part epoch vector)) h)
+    by_grant layout past site part epoch vector (shape_of layout past (Doubt site (pending.Grant part epoch vector)) h)
     (row_holds layout past (Doubt site (pending.Grant part epoch vector)) h)

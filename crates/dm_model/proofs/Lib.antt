@@ -5,8 +5,8 @@ pub mod StepTests
 pub mod Numbering
 pub mod ClausesHold
 pub mod StandingRoutes
-pub mod LegalSteps
 pub mod Judged
+pub mod LegalSteps
 pub mod Histories
 pub mod NumbersKept
 pub mod NumbersSound

@@ -1,5 +1,6 @@
 -- Searches in lists, and what holds of each element.
-use Rattle.std.proofs.Common.{ℕ, suc, ◌<◌, ◌≤◌, ◌≡◌, true, false, cond, List, [], ◌∷◌, refl, sym, ap, ◌∙◌, arith, inl, inr, zero, ◌+◌, Bool, ◌++◌, Option, Some, None, subst, if◌then◌else◌, map, ap₂}
+use Rattle.std.proofs.Common.{ℕ, suc, ◌<◌, ◌≤◌, ◌≡◌, true, false, cond, List, [], ◌∷◌, refl, sym, ap, ◌∙◌, arith, inl, inr, zero, ◌+◌, Bool, ◌++◌, Option, Some}
+use Rattle.std.proofs.Common.{None, subst, if◌then◌else◌, map, ap₂}
 use Rattle.std.proofs.lemmas.Bool.{cases_eq, false≢true}
 use Rattle.std.proofs.lemmas.List.{reverse-append}
 use Rattle.std.specs.List.{AllByRecursion as Each, range_with_len, cons_option}
@@ -72,4 +73,5 @@ cons_false false x xs h = refl
 -- functions that agree on a range
 pub map_same : (f g : ℕ → ℕ) (a n : ℕ) → ((j : ℕ) → a ≤ j → j < a + n → f j ≡ g j) → map f (range_with_len a n) ≡ map g (range_with_len a n)
 map_same f g a zero h = refl
-map_same f g a (suc n) h = ap₂ (λ (x : ℕ) (xs : List ℕ). x ∷ xs) (h a (omega arith) (omega arith)) (map_same f g (a + 1) n (λ j l m. h j (omega arith) (omega arith)))
+map_same f g a (suc n) h = ap₂ (λ (x : ℕ) (xs : List ℕ). x ∷ xs) (h a (omega arith) (omega arith))
+    (map_same f g (a + 1) n (λ j l m. h j (omega arith) (omega arith)))

@@ -64,7 +64,8 @@ pub record Mastered (part : ℕ → ℕ) (m : Mastery) : Type 0 where
   pub between : (key from old to : ℕ) (v : List ℕ) → m.placing (part key) ≡ Between from old to v → WritersWithin m.entries key (at v)
   pub running : (i : ℕ) (t : TxnId) → m.runs i t ≡ true → (key : ℕ) → is_among (m.declared t) key ≡ true
       → MayWrite m.entries (m.placing (part key)) i key (at (unwrap_or (m.begins t) []))
-  pub apart : (i : ℕ) (t u : TxnId) → m.runs i t ≡ true → m.runs i u ≡ true → (key : ℕ) → is_among (m.declared t) key ≡ true → is_among (m.declared u) key ≡ true
+  pub apart : (i : ℕ) (t u : TxnId) → m.runs i t ≡ true → m.runs i u ≡ true → (key : ℕ) → is_among (m.declared t) key ≡ true
+      → is_among (m.declared u) key ≡ true
       → t ≡ u
   pub held : (i : ℕ) → m.down i ≡ true → Held part m i (m.doubt i)
   pub ordered : OrderedEntries m.entries
@@ -187,7 +188,8 @@ module _ (part : ℕ → ℕ) (m : Mastery) (s : Mastered part m) (m' : Mastery)
   entered e ok fl mono up same r free d = record {
     floored = fl;
     written = λ k key a. (
-      (λ w j. (let x = one_master (m.placing (part key)) e.origin k (ok key w).masters a in let y = up j in let z = ap (λ (i : ℕ). m'.floor i j) x in omega arith)),
+      (λ w j. (let x = one_master (m.placing (part key)) e.origin k (ok key w).masters a in let y = up j in let z = ap (λ (i : ℕ). m'.floor i j) x in
+          omega arith)),
       writers_wider m.entries key (m.floor k) (m'.floor k) (mono k) (s.written k key a),
     );
     between = λ key from old to v p. (
@@ -197,7 +199,8 @@ module _ (part : ℕ → ℕ) (m : Mastery) (s : Mastered part m) (m' : Mastery)
     running = λ k t h key a. (let x = s.running k t (r k t h) key a in record {
       masters = x.masters;
       seen = (
-        (λ w. absurd (let y = one_master (m.placing (part key)) k e.origin x.masters (ok key w).masters in free t (subst (λ (i : ℕ). m'.runs i t ≡ true) y h) key a w)),
+        (λ w. absurd (let y = one_master (m.placing (part key)) k e.origin x.masters (ok key w).masters in
+            free t (subst (λ (i : ℕ). m'.runs i t ≡ true) y h) key a w)),
         x.seen,
       );
     });
@@ -206,7 +209,13 @@ module _ (part : ℕ → ℕ) (m : Mastery) (s : Mastered part m) (m' : Mastery)
         let after : Mastery = record m { entries = e ∷ m.entries; floor = m'.floor } in
         subst (λ (o : Option Pending). Held part after k o) (sym x.same)
         (held_wider part m after k (m.doubt k)
-        (λ c key w y. record { masters = y.masters; seen = ((λ v. absurd (x.other (one_master (m.placing (part key)) k e.origin y.masters (ok key v).masters))), y.seen) })
+        (λ c key w y. record {
+          masters = y.masters;
+          seen = (
+            (λ v. absurd (x.other (one_master (m.placing (part key)) k e.origin y.masters (ok key v).masters))),
+            y.seen,
+          );
+        })
         (λ p epoch to q. q) (λ j. (let y = same k j x.other in omega arith)) (λ p from old v q. q) (s.held k (sym x.still ∙ h))));
     ordered = (first_follows e m.entries (λ key w. (ok key w).seen), s.ordered);
   }
@@ -271,7 +280,8 @@ module _ (part : ℕ → ℕ) (m : Mastery) (s : Mastered part m) (m' : Mastery)
           | inl e ↦ (let q : i ≡ k = eqb-true i k (subst (λ (x : Placing). masters_now x k ≡ true) (ap m'.placing e ∙ now) a) in
               subst (λ (x : ℕ). WritersWithin m.entries key (m'.floor x)) q
               (writers_wider m.entries key (at v) (m'.floor i) up (s.between key from old i v (ap m.placing e ∙ was))))
-          | inr n ↦ writers_wider m.entries key (m.floor k) (m'.floor k) (mono k) (s.written k key (subst (λ (x : Placing). masters_now x k ≡ true) (same (part key) n) a))
+          | inr n ↦ writers_wider m.entries key (m.floor k) (m'.floor k) (mono k)
+              (s.written k key (subst (λ (x : Placing). masters_now x k ≡ true) (same (part key) n) a))
         ];
         between = λ key x y z w h. elim (cases_eq (part key) p) [
           | inl e ↦ absurd (cc (now, h, ap m'.placing e))
@@ -310,6 +320,7 @@ module _ (part : ℕ → ℕ) (m : Mastery) (s : Mastered part m) (m' : Mastery)
     running = λ k u h key a. (let x = s.running k u h key a in record { masters = own (part key) k ∙ x.masters; seen = x.seen });
     apart = s.apart;
     held = λ k h. held_wider part m (record m { placing = m'.placing }) k (m.doubt k)
-        (λ e key w x. record { masters = own (part key) k ∙ x.masters; seen = x.seen }) (λ p y z g. c p k y z g) (λ j. omega arith) (λ p x y v g. b' p x y k v g) (s.held k h);
+        (λ e key w x. record { masters = own (part key) k ∙ x.masters; seen = x.seen }) (λ p y z g. c p k y z g) (λ j. omega arith)
+        (λ p x y v g. b' p x y k v g) (s.held k h);
     ordered = s.ordered;
   }

@@ -1,5 +1,6 @@
 -- In every legal past the writers of a key are in order, since its master has all of them.
-use Rattle.std.proofs.Common.{ℕ, suc, ◌+◌, ◌/◌, ◌≤◌, ◌≡◌, ◌≢◌, Bool, true, false, not, ◌==◌, ◌&&◌, cond, if◌then◌else◌, List, [], ◌∷◌, ◌++◌, Option, Some, None, map, length, refl, sym, ap, ◌∙◌, subst, arith, inl, inr, unwrap_or, le_trans}
+use Rattle.std.proofs.Common.{ℕ, suc, ◌+◌, ◌/◌, ◌≤◌, ◌≡◌, ◌≢◌, Bool, true, false, not, ◌==◌, ◌&&◌, cond, if◌then◌else◌, List, [], ◌∷◌, ◌++◌, Option, Some, None}
+use Rattle.std.proofs.Common.{map, length, refl, sym, ap, ◌∙◌, subst, arith, inl, inr, unwrap_or, le_trans}
 use Rattle.std.proofs.lemmas.Bool.{cases_eq, eqb-true, eqb-false, eq-eqb, ne_eqb, cond-true, cond-false, false≢true, false_from_ne_true}
 use Rattle.std.specs.Prelude.{option_map, option_to_list, filter_map}
 use Rattle.dm_event.specs.Txns.{same_txn}
@@ -20,7 +21,8 @@ use Rattle.dm_event.specs.declared.step.Step.TheVariants.{Route, Ask, Settle, Be
 use Rattle.dm_event.specs.declared.step.TxnId.{TxnId}
 use Rattle.dm_event.specs.declared.step.Want.{Want}
 use Rattle.dm_event.specs.declared.step.Pair.{Pair}
-use Rattle.dm_model.proofs.LegalSteps.{LegalCommit, LegalRelease, LegalGrant, MaySet, legal_route, legal_begin, legal_commit, legal_release, legal_grant, legal_restart}
+use Rattle.dm_model.proofs.LegalSteps.{LegalCommit, LegalRelease, LegalGrant, MaySet, legal_route, legal_begin, legal_commit, legal_release, legal_grant}
+use Rattle.dm_model.proofs.LegalSteps.{legal_restart}
 use Rattle.dm_model.proofs.LegalSteps.{doubted_commit, doubted_release, doubted_grant}
 use Rattle.dm_model.proofs.KeysAndBodies.{each_among, among_map, each_unmap, no_common, has_key, body_writes, all_declared}
 use Rattle.dm_model.proofs.ListFacts.{cons_true, cons_false, find_none}
@@ -28,12 +30,14 @@ use Rattle.dm_model.proofs.MastershipKept.{Mastery, Mastered, MayWrite, Held}
 use Rattle.dm_model.proofs.MastershipKept as mastered
 use Rattle.dm_model.proofs.Numbering.{count_at, count_own, count_other, count_more}
 use Rattle.dm_model.proofs.NumbersKept.{Within, Waits, InDoubt}
-use Rattle.dm_model.proofs.NumbersSound.{SoundPast, sound_past, counts, commit_within, doubt_stops, doubt_waits, kept_entries, kept_past, refreshed_own, refreshed_other}
+use Rattle.dm_model.proofs.NumbersSound.{SoundPast, sound_past, counts, commit_within, doubt_stops, doubt_waits, kept_entries, kept_past, refreshed_own}
+use Rattle.dm_model.proofs.NumbersSound.{refreshed_other}
 use Rattle.dm_model.proofs.RunningIsLast.{Seated, seated}
 use Rattle.dm_model.proofs.RunningList.{each_running, no_holder}
 use Rattle.dm_model.proofs.SameValues.{txn_same, txn_own}
 use Rattle.dm_model.proofs.StepTests.{went_on, ran, taken, passed}
-use Rattle.dm_model.proofs.VectorFacts.{join_keeps, join_has, join_least, long_raised, at_raised_own, at_by_within, at_most, at_by_below, long_by, at_raised_other}
+use Rattle.dm_model.proofs.VectorFacts.{join_keeps, join_has, join_least, long_raised, at_raised_own, at_by_within, at_most, at_by_below, long_by}
+use Rattle.dm_model.proofs.VectorFacts.{at_raised_other}
 use Rattle.dm_model.specs.Acts.{entries, acts}
 use Rattle.dm_model.specs.Allowed.{Allowed, with_kept, elsewhere}
 use Rattle.dm_model.specs.Attempts.{Routing, state, wanted_keys, declared}
@@ -125,10 +129,12 @@ module _ (layout : Layout) (past : List Step) (n : SoundPast layout past) (seat 
   -- the floor as an entry comes
 
   pub floor_same : (e : Entry) (i j : ℕ) → i ≢ e.origin → floor_at layout (Commit e ∷ past) i j ≡ floor_at layout past i j
-  floor_same e i j m = ap (λ (vs : List (List ℕ)). at (join_all layout.sites vs) j) (cons_false (e.origin == i) (commit_vector e) (floor_vectors i past) (ne_eqb e.origin i (λ p. m (sym p))))
+  floor_same e i j m = ap (λ (vs : List (List ℕ)). at (join_all layout.sites vs) j)
+      (cons_false (e.origin == i) (commit_vector e) (floor_vectors i past) (ne_eqb e.origin i (λ p. m (sym p))))
 
   floor_with : (e : Entry) (j : ℕ) → floor_at layout (Commit e ∷ past) e.origin j ≡ at (join_all layout.sites (commit_vector e ∷ floor_vectors e.origin past)) j
-  floor_with e j = ap (λ (vs : List (List ℕ)). at (join_all layout.sites vs) j) (cons_true (e.origin == e.origin) (commit_vector e) (floor_vectors e.origin past) (eq-eqb e.origin e.origin refl))
+  floor_with e j = ap (λ (vs : List (List ℕ)). at (join_all layout.sites vs) j)
+      (cons_true (e.origin == e.origin) (commit_vector e) (floor_vectors e.origin past) (eq-eqb e.origin e.origin refl))
 
   pub floor_grows : (e : Entry) (i j : ℕ) → floor_at layout past i j ≤ floor_at layout (Commit e ∷ past) i j
   floor_grows e i j = elim (cases_eq i e.origin) [
@@ -138,14 +144,18 @@ module _ (layout : Layout) (past : List Step) (n : SoundPast layout past) (seat 
   ]
 
   pub floor_takes : (e : Entry) (j : ℕ) → length e.begin ≡ layout.sites → at (commit_vector e) j ≤ floor_at layout (Commit e ∷ past) e.origin j
-  floor_takes e j l = (let a = floor_with e j in let b = join_has layout.sites (commit_vector e) (floor_vectors e.origin past) (long_raised e.begin e.origin e.seq ∙ l) j in omega arith)
+  floor_takes e j l = (let a = floor_with e j in let b = join_has layout.sites (commit_vector e) (floor_vectors e.origin past)
+      (long_raised e.begin e.origin e.seq ∙ l) j in omega arith)
 
   -- the floor as a grant comes
   pub grant_same : (site part epoch : ℕ) (v : List ℕ) (i j : ℕ) → i ≢ site → floor_at layout (Grant site part epoch v ∷ past) i j ≡ floor_at layout past i j
-  grant_same site part epoch v i j m = ap (λ (vs : List (List ℕ)). at (join_all layout.sites vs) j) (cons_false (site == i) v (floor_vectors i past) (ne_eqb site i (λ p. m (sym p))))
+  grant_same site part epoch v i j m = ap (λ (vs : List (List ℕ)). at (join_all layout.sites vs) j)
+      (cons_false (site == i) v (floor_vectors i past) (ne_eqb site i (λ p. m (sym p))))
 
-  grant_with : (site part epoch : ℕ) (v : List ℕ) (j : ℕ) → floor_at layout (Grant site part epoch v ∷ past) site j ≡ at (join_all layout.sites (v ∷ floor_vectors site past)) j
-  grant_with site part epoch v j = ap (λ (vs : List (List ℕ)). at (join_all layout.sites vs) j) (cons_true (site == site) v (floor_vectors site past) (eq-eqb site site refl))
+  grant_with : (site part epoch : ℕ) (v : List ℕ) (j : ℕ) → floor_at layout (Grant site part epoch v ∷ past) site j ≡ at
+      (join_all layout.sites (v ∷ floor_vectors site past)) j
+  grant_with site part epoch v j = ap (λ (vs : List (List ℕ)). at (join_all layout.sites vs) j)
+      (cons_true (site == site) v (floor_vectors site past) (eq-eqb site site refl))
 
   pub grant_grows : (site part epoch : ℕ) (v : List ℕ) (i j : ℕ) → floor_at layout past i j ≤ floor_at layout (Grant site part epoch v ∷ past) i j
   grant_grows site part epoch v i j = elim (cases_eq i site) [
@@ -161,7 +171,8 @@ module _ (layout : Layout) (past : List Step) (n : SoundPast layout past) (seat 
   reached_own : (e : Entry) (j : ℕ) → reached e.origin j past ≤ reached e.origin j (Commit e ∷ past)
   reached_own e j = by_test (e.origin == j)
     where
-      by_test : (b : Bool) → cond b (count_at e.origin (entries past)) (refreshed e.origin j past) ≤ cond b (count_at e.origin (e ∷ entries past)) (refreshed e.origin j past)
+      by_test : (b : Bool) → cond b (count_at e.origin (entries past)) (refreshed e.origin j past) ≤ cond b (count_at e.origin (e ∷ entries past))
+          (refreshed e.origin j past)
       by_test true = (let c = count_own e (entries past) e.origin refl in omega arith)
       by_test false = omega arith
 
@@ -171,23 +182,28 @@ module _ (layout : Layout) (past : List Step) (n : SoundPast layout past) (seat 
   reached_grows : (e : Entry) (i j : ℕ) → reached i j past ≤ reached i j (Commit e ∷ past)
   reached_grows e i j = elim (cases_eq i e.origin) [
     | inl p ↦ subst (λ (x : ℕ). reached x j past ≤ reached x j (Commit e ∷ past)) (sym p) (reached_own e j)
-    | inr m ↦ (let c : reached i j (Commit e ∷ past) ≡ reached i j past = ap (λ (x : ℕ). cond (i == j) x (refreshed i j past)) (count_other e (entries past) i (λ q. m (sym q))) in omega arith)
+    | inr m ↦ (let c : reached i j (Commit e ∷ past) ≡ reached i j past =
+        ap (λ (x : ℕ). cond (i == j) x (refreshed i j past)) (count_other e (entries past) i (λ q. m (sym q))) in omega arith)
   ]
 
-  commit_below : (e : Entry) (j : ℕ) → 1 ≤ e.origin → e.origin ≤ length e.begin → e.seq ≡ suc (count_at e.origin (entries past)) → Within layout.sites (λ j. reached e.origin j past) e.begin
+  commit_below : (e : Entry) (j : ℕ) → 1 ≤ e.origin → e.origin ≤ length e.begin → e.seq ≡ suc (count_at e.origin (entries past))
+      → Within layout.sites (λ j. reached e.origin j past) e.begin
       → at (commit_vector e) j ≤ reached e.origin j (Commit e ∷ past)
   commit_below e j one in' num w = elim (cases_eq j e.origin) [
-    | inl p ↦ subst (λ (x : ℕ). at (commit_vector e) x ≤ reached e.origin x (Commit e ∷ past)) (sym p) (let a = at_raised_own e.begin e.origin e.seq one in' in let b = reached_self e in omega arith)
+    | inl p ↦ subst (λ (x : ℕ). at (commit_vector e) x ≤ reached e.origin x (Commit e ∷ past)) (sym p)
+        (let a = at_raised_own e.begin e.origin e.seq one in' in let b = reached_self e in omega arith)
     | inr m ↦ (let a = at_raised_other e.begin e.origin e.seq j one m in let b = w.below j in let c = reached_own e j in omega arith)
   ]
 
   -- the floor stays below what the site has
-  commit_floored : (e : Entry) → 1 ≤ e.origin → e.origin ≤ length e.begin → e.seq ≡ suc (count_at e.origin (entries past)) → Within layout.sites (λ j. reached e.origin j past) e.begin
+  commit_floored : (e : Entry) → 1 ≤ e.origin → e.origin ≤ length e.begin → e.seq ≡ suc (count_at e.origin (entries past))
+      → Within layout.sites (λ j. reached e.origin j past) e.begin
       → (i j : ℕ) → floor_at layout (Commit e ∷ past) i j ≤ reached i j (Commit e ∷ past)
   commit_floored e one in' num w i j = elim (cases_eq i e.origin) [
     | inl p ↦ subst (λ (x : ℕ). floor_at layout (Commit e ∷ past) x j ≤ reached x j (Commit e ∷ past)) (sym p) (
         let a = floor_with e j in
-        let b = join_least layout.sites (commit_vector e) (floor_vectors e.origin past) (reached e.origin j (Commit e ∷ past)) j (commit_below e j one in' num w) (let x = s.floored e.origin j in let y = reached_own e j in omega arith) in
+        let b = join_least layout.sites (commit_vector e) (floor_vectors e.origin past) (reached e.origin j (Commit e ∷ past)) j
+        (commit_below e j one in' num w) (let x = s.floored e.origin j in let y = reached_own e j in omega arith) in
         omega arith)
     | inr m ↦ (let a = floor_same e i j m in let b = s.floored i j in let c = reached_grows e i j in omega arith)
   ]
@@ -205,7 +221,8 @@ module _ (layout : Layout) (past : List Step) (n : SoundPast layout past) (seat 
       (commit_floored e one (omega arith) legal.seq within) (floor_grows e) (λ j. floor_takes e j long) (λ i j m. floor_same e i j m)
       (λ k u r. (went_on (same_txn u e.txn) _ r).before)
       (λ u r key m w. (let x = went_on (same_txn u e.txn) _ r in
-      false≢true (sym x.test ∙ ap (λ (y : TxnId). same_txn u y) (sym (s.apart e.origin u e.txn x.before legal.runs key m (commit_keys e legal key w))) ∙ txn_own u)))
+      false≢true (sym x.test ∙ ap (λ (y : TxnId). same_txn u y) (sym (s.apart e.origin u e.txn x.before legal.runs key m (commit_keys e legal key w)))
+      ∙ txn_own u)))
       (λ k d. record { other = λ p. false≢true (sym up ∙ ap (λ (x : ℕ). is_down x past) (sym p) ∙ d); still = refl; same = refl })
 
   -- the vector of a site is at least its floor
@@ -267,7 +284,8 @@ module _ (layout : Layout) (past : List Step) (n : SoundPast layout past) (seat 
       (λ k d. record { other = λ p. false≢true (sym legal.up ∙ ap (λ (x : ℕ). is_down x past) (sym p) ∙ d); still = refl; same = refl })
 
   -- the floor stays below what the sites have, as a grant comes
-  grant_floored : (site part epoch : ℕ) (v : List ℕ) (got : ℕ → ℕ → ℕ) → ((i j : ℕ) → i ≢ site → floor_at layout past i j ≤ got i j) → ((j : ℕ) → floor_at layout past site j ≤ got site j) → ((j : ℕ) → at v j ≤ got site j)
+  grant_floored : (site part epoch : ℕ) (v : List ℕ) (got : ℕ → ℕ → ℕ) → ((i j : ℕ) → i ≢ site → floor_at layout past i j ≤ got i j)
+      → ((j : ℕ) → floor_at layout past site j ≤ got site j) → ((j : ℕ) → at v j ≤ got site j)
       → (i j : ℕ) → floor_at layout (Grant site part epoch v ∷ past) i j ≤ got i j
   grant_floored site part epoch v got le own new i j = elim (cases_eq i site) [
     | inl p ↦ subst (λ (x : ℕ). floor_at layout (Grant site part epoch v ∷ past) x j ≤ got x j) (sym p) (
@@ -277,38 +295,45 @@ module _ (layout : Layout) (past : List Step) (n : SoundPast layout past) (seat 
     | inr m ↦ (let a = grant_same site part epoch v i j m in let b = le i j m in omega arith)
   ]
 
-  mastered_grant : (site part epoch : ℕ) (vector : List ℕ) → Allowed layout past (Grant site part epoch vector) → MasteredPast layout (Grant site part epoch vector ∷ past)
+  mastered_grant : (site part epoch : ℕ) (vector : List ℕ) → Allowed layout past (Grant site part epoch vector)
+      → MasteredPast layout (Grant site part epoch vector ∷ past)
   mastered_grant site part epoch vector h =
       let legal = legal_grant layout past site part epoch vector h in
-      mastered.granted (part_of layout) (mastery layout past) s (mastery layout (Grant site part epoch vector ∷ past)) site part epoch legal.from legal.old vector
+      mastered.granted (part_of layout) (mastery layout past) s (mastery layout (Grant site part epoch vector ∷ past)) site part epoch legal.from legal.old
+      vector
       legal.between (cond-true (part == part) _ _ (eq-eqb part part refl)) (λ q m. cond-false (part == q) _ _ (ne_eqb part q (λ p. m (sym p))))
-      (grant_floored site part epoch vector (λ i j. reached i j past) (λ i j m. s.floored i j) (λ j. s.floored site j) (grant_reached site part epoch vector legal))
+      (grant_floored site part epoch vector (λ i j. reached i j past) (λ i j m. s.floored i j) (λ j. s.floored site j)
+      (grant_reached site part epoch vector legal))
       (grant_grows site part epoch vector) (λ j. grant_takes site part epoch vector j legal.long) (λ k j m. grant_same site part epoch vector k j m)
       (λ k u r. r)
       (λ k d. record { other = λ p. false≢true (sym legal.up ∙ ap (λ (x : ℕ). is_down x past) (sym p) ∙ d); still = refl; same = refl })
 
   mastered_doubt : (site : ℕ) (p : Pending) → Held (part_of layout) (mastery layout past) site (Some p) → MasteredPast layout (Doubt site p ∷ past)
   mastered_doubt site p d =
-      mastered.doubted (part_of layout) (mastery layout past) s (mastery layout (Doubt site p ∷ past)) site p d (doubt_stops past site p) (doubt_waits past site p)
+      mastered.doubted (part_of layout) (mastery layout past) s (mastery layout (Doubt site p ∷ past)) site p d (doubt_stops past site p)
+      (doubt_waits past site p)
 
   refresh_grows : (b x : Bool) (a k m : ℕ) → cond b a (k + m) ≤ cond b a (k + cond x (suc m) m)
   refresh_grows true x a k m = omega arith
   refresh_grows false true a k m = omega arith
   refresh_grows false false a k m = omega arith
 
-  route_keeps : (txn : TxnId) (want : Want) (min : List ℕ) (site : ℕ) (choice : Choice) → Allowed layout past (Route txn want min site choice) → (i : ℕ) (t : TxnId) → runs i t past ≡ true
+  route_keeps : (txn : TxnId) (want : Want) (min : List ℕ) (site : ℕ) (choice : Choice) → Allowed layout past (Route txn want min site choice)
+      → (i : ℕ) (t : TxnId) → runs i t past ≡ true
       → declared t (Route txn want min site choice ∷ past) ≡ declared t past
   route_keeps txn want min site choice h i t r =
       let legal = legal_route layout past txn want min site choice h in
       let other : same_txn t txn ≡ false = false_from_ne_true (same_txn t txn) (λ e.
-      false≢true (subst (λ (x : AttemptState). may_route x ≡ true) (ap (λ (u : TxnId). state u.session past) (sym (txn_same t txn e)) ∙ (seat i t r).runs) legal.further)) in
+      false≢true (subst (λ (x : AttemptState). may_route x ≡ true) (ap (λ (u : TxnId). state u.session past) (sym (txn_same t txn e)) ∙ (seat i t r).runs)
+      legal.further)) in
       ap (λ (o : Option Routing). unwrap_or (option_map (λ r. wanted_keys r.want) o) []) (passed (same_txn t txn) _ _ other)
 
   -- what a site has after a Restart, where the entries are these
   restart_set : (site : ℕ) (vector : List ℕ) (found : Found) (es : List Entry) (j : ℕ) → at vector site ≡ count_at site es
       → at vector j ≤ cond (site == j) (count_at site es) (refreshed site j (Restart site vector found ∷ past))
   restart_set site vector found es j m = elim (cases_eq site j) [
-    | inl p ↦ (let a = cond-true (site == j) (count_at site es) (refreshed site j (Restart site vector found ∷ past)) (eq-eqb site j p) in let b = ap (λ (x : ℕ). at vector x) p in omega arith)
+    | inl p ↦ (let a = cond-true (site == j) (count_at site es) (refreshed site j (Restart site vector found ∷ past)) (eq-eqb site j p) in let b =
+        ap (λ (x : ℕ). at vector x) p in omega arith)
     | inr q ↦ (let a = cond-false (site == j) (count_at site es) (refreshed site j (Restart site vector found ∷ past)) (ne_eqb site j q) in
         let b : refreshed site j (Restart site vector found ∷ past) ≡ at vector j = refreshed_own layout past n site vector found j in omega arith)
   ]
@@ -322,20 +347,27 @@ module _ (layout : Layout) (past : List Step) (n : SoundPast layout past) (seat 
       by_test false = omega arith
 
   -- the floor stays below what the sites have, as a site restarts at a vector above its floor
-  restart_floored : (site : ℕ) (vector : List ℕ) (found : Found) (es : List Entry) (floor' : ℕ → ℕ → ℕ) → at vector site ≡ count_at site es → ((j : ℕ) → floor' site j ≤ at vector j)
+  restart_floored : (site : ℕ) (vector : List ℕ) (found : Found) (es : List Entry) (floor' : ℕ → ℕ → ℕ) → at vector site ≡ count_at site es
+      → ((j : ℕ) → floor' site j ≤ at vector j)
       → ((k j : ℕ) → k ≢ site → floor' k j ≡ floor_at layout past k j) → ((k : ℕ) → count_at k (entries past) ≤ count_at k es)
       → (k j : ℕ) → floor' k j ≤ cond (k == j) (count_at k es) (refreshed k j (Restart site vector found ∷ past))
   restart_floored site vector found es floor' m le same more k j = elim (cases_eq k site) [
-    | inl p ↦ subst (λ (x : ℕ). floor' x j ≤ cond (x == j) (count_at x es) (refreshed x j (Restart site vector found ∷ past))) (sym p) (le_trans (le j) (restart_set site vector found es j m))
+    | inl p ↦ subst (λ (x : ℕ). floor' x j ≤ cond (x == j) (count_at x es) (refreshed x j (Restart site vector found ∷ past))) (sym p)
+        (le_trans (le j) (restart_set site vector found es j m))
     | inr q ↦ (let a = same k j q in let b = s.floored k j in let c = restart_other site vector found es k j q (more k) in
         let d : floor' k j ≤ reached k j past = omega arith in le_trans d c)
   ]
 
-  stops : (site : ℕ) (vector : List ℕ) (found : Found) (k : ℕ) (u : TxnId) → runs k u (Restart site vector found ∷ past) ≡ true → (site ≢ k) × (runs k u past ≡ true)
+  stops : (site : ℕ) (vector : List ℕ) (found : Found) (k : ℕ) (u : TxnId) → runs k u (Restart site vector found ∷ past) ≡ true → (site ≢ k)
+      × (runs k u past ≡ true)
   stops site vector found k u r = elim (ran (site == k) false _ r) [ inl q ↦ absurd (false≢true q.now) | inr q ↦ (eqb-false site k q.test, q.before) ]
 
   rises : (site : ℕ) (vector : List ℕ) (found : Found) (k : ℕ) → is_down k (Restart site vector found ∷ past) ≡ true → (k ≢ site) × (is_down k past ≡ true)
-  rises site vector found k r = elim (ran (site == k) false _ r) [ inl q ↦ absurd (false≢true q.now) | inr q ↦ ((λ e. eqb-false site k q.test (sym e)), q.before) ]
+  rises site vector found k r = elim (ran (site == k) false _ r) [
+    | inl q ↦ absurd (false≢true q.now)
+    | inr q ↦
+        ((λ e. eqb-false site k q.test (sym e)), q.before)
+  ]
 
   -- what is down after a Restart of the site waits, also where its pending step is kept
   waits : (site : ℕ) (vector : List ℕ) (found : Found) (at_site : ℕ) → at_site ≡ site → (k : ℕ) → is_down k (Restart site vector found ∷ past) ≡ true
@@ -359,10 +391,12 @@ module _ (layout : Layout) (past : List Step) (n : SoundPast layout past) (seat 
   }
 
   -- the floor is at most the vector to which the site is set
-  set_floor : (site : ℕ) (vector : List ℕ) (kept : List Step) → MaySet layout past site vector kept → (j : ℕ) → at (floor layout.sites kept site) j ≤ at vector j
+  set_floor : (site : ℕ) (vector : List ℕ) (kept : List Step) → MaySet layout past site vector kept → (j : ℕ)
+      → at (floor layout.sites kept site) j ≤ at vector j
   set_floor site vector kept set = at_most layout.sites (floor layout.sites kept site) vector (long_by layout.sites _) set.not_behind
 
-  mastered_kept : (site : ℕ) (vector : List ℕ) (found : Found) (o : Option Pending) → InDoubt layout.sites (counts past) site o → Held (part_of layout) (mastery layout past) site o
+  mastered_kept : (site : ℕ) (vector : List ℕ) (found : Found) (o : Option Pending) → InDoubt layout.sites (counts past) site o
+      → Held (part_of layout) (mastery layout past) site o
       → MaySet layout past site vector (kept_past layout past n site o) → Mastered (part_of layout) (kept_mastery site vector found o)
   mastered_kept site vector found None d held set =
       mastered.eased (part_of layout) (mastery layout past) s (kept_mastery site vector found None)
@@ -387,15 +421,18 @@ module _ (layout : Layout) (past : List Step) (n : SoundPast layout past) (seat 
       (λ u r key a w. (stops site vector found site u r).0 refl)
       (waits site vector found site refl)
   mastered_kept site vector found (Some (pending.Grant part epoch v)) d held set =
-      mastered.granted (part_of layout) (mastery layout past) s (kept_mastery site vector found (Some (pending.Grant part epoch v))) site part epoch held.from held.old v
+      mastered.granted (part_of layout) (mastery layout past) s (kept_mastery site vector found (Some (pending.Grant part epoch v))) site part epoch held.from
+      held.old v
       held.between (cond-true (part == part) _ _ (eq-eqb part part refl)) (λ q x. cond-false (part == q) _ _ (ne_eqb part q (λ p. x (sym p))))
-      (restart_floored site vector found (entries past) (floor_at layout (Grant site part epoch v ∷ past)) set.own (set_floor site vector (Grant site part epoch v ∷ past) set)
+      (restart_floored site vector found (entries past) (floor_at layout (Grant site part epoch v ∷ past)) set.own
+      (set_floor site vector (Grant site part epoch v ∷ past) set)
       (λ k j q. grant_same site part epoch v k j q) (λ k. omega arith))
       (grant_grows site part epoch v) (λ j. grant_takes site part epoch v j d) (λ k j q. grant_same site part epoch v k j q)
       (λ k u r. (stops site vector found k u r).1)
       (waits site vector found site refl)
 
-  mastered_restart : (site : ℕ) (vector : List ℕ) (found : Found) → Allowed layout past (Restart site vector found) → MasteredPast layout (Restart site vector found ∷ past)
+  mastered_restart : (site : ℕ) (vector : List ℕ) (found : Found) → Allowed layout past (Restart site vector found)
+      → MasteredPast layout (Restart site vector found ∷ past)
   mastered_restart site vector found h = (let legal = legal_restart layout past site vector found h in by_found found legal.fits legal.may_set)
     where
       by_found : (found : Found) → found_fits found (is_down site past) ≡ true → MaySet layout past site vector (with_kept site found past)
@@ -404,20 +441,27 @@ module _ (layout : Layout) (past : List Step) (n : SoundPast layout past) (seat 
       by_found Lost fits set = mastered_kept site vector Lost None tt tt set
       by_found Kept fits set = mastered_kept site vector Kept (pending_at site past) (n.in_doubt site fits) (s.held site fits) set
 
-pub mastered_step : (layout : Layout) (past : List Step) (s : Step) → SoundPast layout past → Seated past → MasteredPast layout past → Allowed layout past s → MasteredPast layout (s ∷ past)
+pub mastered_step : (layout : Layout) (past : List Step) (s : Step) → SoundPast layout past → Seated past → MasteredPast layout past → Allowed layout past s
+    → MasteredPast layout (s ∷ past)
 mastered_step layout past (Route txn want min site choice) n seat s h =
     mastered.eased (part_of layout) (mastery layout past) s (mastery layout (Route txn want min site choice ∷ past))
     s.floored (λ i t r. (r, route_keeps layout past n seat s txn want min site choice h i t r)) (λ i d. d)
 mastered_step layout past (Ask part epoch to txn) n seat s h =
     mastered.replaced (part_of layout) (mastery layout past) s (mastery layout (Ask part epoch to txn ∷ past))
-    (λ q k. choose_placing (λ x p. masters_now x k ≡ masters_now p k) (λ p. asked p to) (part == q) (placing layout past q) (asked_masters (placing layout past q) to k) refl)
-    (λ q x y z v. choose_placing (λ w p. w ≡ Between x y z v → p ≡ Between x y z v) (λ p. asked p to) (part == q) (placing layout past q) (asked_between (placing layout past q) to x y z v) (λ h. h))
-    (λ q x y z v. choose_placing (λ w p. p ≡ Between x y z v → w ≡ Between x y z v) (λ p. asked p to) (part == q) (placing layout past q) (λ h. ap (λ (p : Placing). asked p to) h) (λ h. h))
-    (λ q x y z. choose_placing (λ w p. p ≡ Asked x y z → w ≡ Asked x y z) (λ p. asked p to) (part == q) (placing layout past q) (λ h. ap (λ (p : Placing). asked p to) h) (λ h. h))
+    (λ q k. choose_placing (λ x p. masters_now x k ≡ masters_now p k) (λ p. asked p to) (part == q) (placing layout past q)
+    (asked_masters (placing layout past q) to k) refl)
+    (λ q x y z v. choose_placing (λ w p. w ≡ Between x y z v → p ≡ Between x y z v) (λ p. asked p to) (part == q) (placing layout past q)
+    (asked_between (placing layout past q) to x y z v) (λ h. h))
+    (λ q x y z v. choose_placing (λ w p. p ≡ Between x y z v → w ≡ Between x y z v) (λ p. asked p to) (part == q) (placing layout past q)
+    (λ h. ap (λ (p : Placing). asked p to) h) (λ h. h))
+    (λ q x y z. choose_placing (λ w p. p ≡ Asked x y z → w ≡ Asked x y z) (λ p. asked p to) (part == q) (placing layout past q)
+    (λ h. ap (λ (p : Placing). asked p to) h) (λ h. h))
 mastered_step layout past (Settle part epoch) n seat s h =
     mastered.replaced (part_of layout) (mastery layout past) s (mastery layout (Settle part epoch ∷ past))
-    (λ q k. choose_placing (λ x p. masters_now x k ≡ masters_now p k) settled (part == q) (placing layout past q) (settled_masters (placing layout past q) k) refl)
-    (λ q x y z v. choose_placing (λ w p. w ≡ Between x y z v → p ≡ Between x y z v) settled (part == q) (placing layout past q) (settled_between (placing layout past q) x y z v) (λ h. h))
+    (λ q k. choose_placing (λ x p. masters_now x k ≡ masters_now p k) settled (part == q) (placing layout past q) (settled_masters (placing layout past q) k)
+    refl)
+    (λ q x y z v. choose_placing (λ w p. w ≡ Between x y z v → p ≡ Between x y z v) settled (part == q) (placing layout past q)
+    (settled_between (placing layout past q) x y z v) (λ h. h))
     (λ q x y z v. choose_placing (λ w p. p ≡ Between x y z v → w ≡ Between x y z v) settled (part == q) (placing layout past q) (λ h. ap settled h) (λ h. h))
     (λ q x y z. choose_placing (λ w p. p ≡ Asked x y z → w ≡ Asked x y z) settled (part == q) (placing layout past q) (λ h. ap settled h) (λ h. h))
 mastered_step layout past (Begin site txn begin) n seat s h = mastered_begin layout past n seat s site txn begin h
@@ -430,13 +474,15 @@ mastered_step layout past (Fail site txn cause) n seat s h =
     s.floored (λ i t r. ((went_on (same_txn t txn) _ r).before, refl)) (λ i d. d)
 mastered_step layout past (Refresh site origin) n seat s h =
     mastered.eased (part_of layout) (mastery layout past) s (mastery layout (Refresh site origin ∷ past))
-    (λ i j. (let a = s.floored i j in let b = refresh_grows layout past n seat s (i == j) ((site == i) && (origin == j)) (entry_count i past) _ _ in le_trans a b)) (λ i t r. (r, refl)) (λ i d. d)
+    (λ i j. (let a = s.floored i j in let b = refresh_grows layout past n seat s (i == j) ((site == i) && (origin == j)) (entry_count i past) _ _ in
+    le_trans a b)) (λ i t r. (r, refl)) (λ i d. d)
 mastered_step layout past (Release site part epoch to vector) n seat s h = mastered_release layout past n seat s site part epoch to vector h
 mastered_step layout past (Grant site part epoch vector) n seat s h = mastered_grant layout past n seat s site part epoch vector h
 mastered_step layout past (Doubt site (pending.Commit e)) n seat s h =
     let legal = doubted_commit layout past site e h in
     mastered_doubt layout past n seat s site (pending.Commit e)
-    (λ key w. subst (λ (i : ℕ). MayWrite (entries past) (placing layout past (part_of layout key)) i key (at e.begin)) legal.own (commit_holds layout past n seat s e legal.commit key w))
+    (λ key w. subst (λ (i : ℕ). MayWrite (entries past) (placing layout past (part_of layout key)) i key (at e.begin)) legal.own
+    (commit_holds layout past n seat s e legal.commit key w))
 mastered_step layout past (Doubt site (pending.Release part epoch to vector)) n seat s h =
     let legal = doubted_release layout past site part epoch to vector h in
     mastered_doubt layout past n seat s site (pending.Release part epoch to vector)

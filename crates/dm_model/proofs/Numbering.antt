@@ -1,5 +1,6 @@
 -- The entries of each origin are numbered, and what is closed stays so as entries come.
-use Rattle.std.proofs.Common.{ℕ, suc, ◌<◌, ◌≤◌, ◌≡◌, ◌≢◌, true, false, ◌==◌, cond, List, [], ◌∷◌, refl, sym, ap, ◌∙◌, arith, inl, inr, ◌⊎◌, zero, Bool, not, nat_lt, ◌&&◌, Some, None, length, subst}
+use Rattle.std.proofs.Common.{ℕ, suc, ◌<◌, ◌≤◌, ◌≡◌, ◌≢◌, true, false, ◌==◌, cond, List, [], ◌∷◌, refl, sym, ap, ◌∙◌, arith, inl, inr, ◌⊎◌, zero, Bool, not}
+use Rattle.std.proofs.Common.{nat_lt, ◌&&◌, Some, None, length, subst}
 use Rattle.std.proofs.lemmas.Bool.{cases_eq, eq-eqb, ne_eqb, cond-true, cond-false, eqb-true, false≢true, ltb-false, and_parts, cases_lt, le-leb}
 use Rattle.std.specs.List.{AllByRecursion as Each}
 use Rattle.std.specs.Prelude.{find, reverse}
@@ -44,7 +45,8 @@ pub within_count : (es : List Entry) → Numbered es → Each (λ d. d.seq ≤ c
 within_count [] h = tt
 within_count (e ∷ es) h = (
   (let c = count_own e es e.origin refl in let n = h.0.seq in omega (arith, n, c)),
-  each_map (λ d. d.seq ≤ count_at d.origin es) (λ d. d.seq ≤ count_at d.origin (e ∷ es)) (λ d k. (let c = count_more e es d.origin in omega arith)) es (within_count es h.1),
+  each_map (λ d. d.seq ≤ count_at d.origin es) (λ d. d.seq ≤ count_at d.origin (e ∷ es)) (λ d k. (let c = count_more e es d.origin in omega arith)) es
+      (within_count es h.1),
 )
 
 -- what is closed stays closed as an entry comes
@@ -75,7 +77,11 @@ closed_same es f g e c = record {
 pub closed_own : (e : Entry) (es : List Entry) (f g : ℕ → ℕ) → Numbered (e ∷ es) → ClosedBy es f → f e.origin ≡ count_at e.origin es
     → g e.origin ≡ suc (f e.origin) → ((j : ℕ) → j ≢ e.origin → g j ≡ f j) → ((j : ℕ) → at e.begin j ≤ f j) → ClosedBy (e ∷ es) g
 closed_own e es f g h c own up same le =
-    let wide : (j : ℕ) → f j ≤ g j = λ j. elim (cases_eq j e.origin) [ inl p ↦ (let a = ap f p in let b = ap g p in omega arith) | inr n ↦ (let a = same j n in omega arith) ] in
+    let wide : (j : ℕ) → f j ≤ g j = λ j. elim (cases_eq j e.origin) [
+      | inl p ↦ (let a = ap f p in let b = ap g p in omega arith)
+      | inr n
+          ↦ (let a = same j n in omega arith)
+    ] in
     closed_wider (e ∷ es) f g (closed_more e es f h c) wide
     (λ j. elim (cases_eq j e.origin) [
       | inl p ↦ (let a = ap f p in let b = ap g p in let d = count_own e es j (sym p) in let k = ap (λ (o : ℕ). count_at o es) p in omega arith)
@@ -94,7 +100,11 @@ pub closed_next : (es : List Entry) (f g : ℕ → ℕ) (o : ℕ) (e : Entry) �
     → Each (λ d. d.origin ≡ o → d.seq ≡ suc (f o) → d ≡ e) es → f o < count_at o es
     → g o ≡ suc (f o) → ((j : ℕ) → j ≢ o → g j ≡ f j) → ((j : ℕ) → at e.begin j ≤ f j) → ClosedBy es g
 closed_next es f g o e c one more up same le =
-    let wide : (j : ℕ) → f j ≤ g j = λ j. elim (cases_eq j o) [ inl p ↦ (let a = ap f p in let b = ap g p in omega arith) | inr n ↦ (let a = same j n in omega arith) ] in
+    let wide : (j : ℕ) → f j ≤ g j = λ j. elim (cases_eq j o) [
+      | inl p ↦ (let a = ap f p in let b = ap g p in omega arith)
+      | inr n
+          ↦ (let a = same j n in omega arith)
+    ] in
     closed_wider es f g c wide
     (λ j. elim (cases_eq j o) [
       | inl p ↦ (let b = ap g p in let k = ap (λ (i : ℕ). count_at i es) p in omega arith)
@@ -104,7 +114,8 @@ closed_next es f g o e c one more up same le =
     (λ d u k. elim (cases_eq d.origin o) [
       | inl p ↦ (let a = ap f p in let b = ap g p in
           elim (cases_eq d.seq (suc (f o))) [
-            | inl q ↦ inr (λ j. (let w = le j in let z = wide j in let y : at d.begin j ≡ at e.begin j = ap (λ (x : Entry). at x.begin j) (u p q) in omega arith))
+            | inl q ↦ inr (λ j. (let w = le j in let z = wide j in let y : at d.begin j ≡ at e.begin j = ap (λ (x : Entry). at x.begin j) (u p q) in
+                omega arith))
             | inr r ↦ inl (omega (arith, r))
           ])
       | inr n ↦ inl (let a = same d.origin n in omega arith)
@@ -114,7 +125,8 @@ closed_next es f g o e c one more up same le =
 pub closed_vector : (count : ℕ) (es : List Entry) (f : ℕ → ℕ) → Each (λ e. length e.begin ≡ count) es → ClosedBy es f → ClosedBy es (at (vector_by count f))
 closed_vector count es f long c = record {
   within = λ j. (let a = at_by_below count f j in let b = c.within j in omega arith);
-  begun = each_map2 (λ e. length e.begin ≡ count) (λ e. e.seq ≤ f e.origin → (j : ℕ) → at e.begin j ≤ f j) (λ e. e.seq ≤ at (vector_by count f) e.origin → (j : ℕ) → at e.begin j ≤ at (vector_by count f) j)
+  begun = each_map2 (λ e. length e.begin ≡ count) (λ e. e.seq ≤ f e.origin → (j : ℕ) → at e.begin j ≤ f j)
+      (λ e. e.seq ≤ at (vector_by count f) e.origin → (j : ℕ) → at e.begin j ≤ at (vector_by count f) j)
       (λ e l old k j. (let a = at_by_below count f e.origin in let b = old (omega arith) j in inside e j l b)) es long c.begun;
 }
   where
@@ -140,7 +152,8 @@ found_entry (x ∷ es) j n e h f = at_head (λ g. found_entry es j n e h.1 g) ((
     both : (p q : Bool) → p ≡ true → q ≡ true → (p && q) ≡ true
     both p q a b = rw (a, b) refl
 
-    at_head : (find (λ d. (d.origin == j) && (d.seq == n)) es ≡ Some e → FoundAt es j n e) → (b : Bool) → ((x.origin == j) && (x.seq == n)) ≡ b → cond b (Some x) (find (λ d. (d.origin == j) && (d.seq == n)) es) ≡ Some e → FoundAt (x ∷ es) j n e
+    at_head : (find (λ d. (d.origin == j) && (d.seq == n)) es ≡ Some e → FoundAt es j n e) → (b : Bool) → ((x.origin == j) && (x.seq == n)) ≡ b
+        → cond b (Some x) (find (λ d. (d.origin == j) && (d.seq == n)) es) ≡ Some e → FoundAt (x ∷ es) j n e
     at_head rest true t g =
         let p = and_parts (x.origin == j) (x.seq == n) t in
         let o = eqb-true x.origin j p.0 in
@@ -154,7 +167,8 @@ found_entry (x ∷ es) j n e h f = at_head (λ g. found_entry es j n e h.1 g) ((
           only = (
             (λ a b. refl),
             each_map (λ d. d.seq ≤ count_at d.origin es) (λ d. d.origin ≡ j → d.seq ≡ n → d ≡ x)
-                (λ d w a b. absurd (let c : count_at d.origin es ≡ count_at x.origin es = ap (λ (i : ℕ). count_at i es) (a ∙ sym o) in let k = h.0.seq in omega (arith, k, w, b, s, c)))
+                (λ d w a b. absurd (let c : count_at d.origin es ≡ count_at x.origin es = ap (λ (i : ℕ). count_at i es) (a ∙ sym o) in let k = h.0.seq in
+                omega (arith, k, w, b, s, c)))
                 es (within_count es h.1),
           );
         })
@@ -173,12 +187,14 @@ fails_at true b h = inl refl
 fails_at false b h = inr h
 
 -- the site has what the entry needs but, maybe, of its own origin
-pub none_missing : (count : ℕ) (v : List ℕ) (e : Entry) → length e.begin ≡ count → find (λ j. not (j == e.origin) && nat_lt (at v j) (at e.begin j)) (sites_to count) ≡ None
+pub none_missing : (count : ℕ) (v : List ℕ) (e : Entry) → length e.begin ≡ count
+    → find (λ j. not (j == e.origin) && nat_lt (at v j) (at e.begin j)) (sites_to count) ≡ None
     → (j : ℕ) → j ≢ e.origin → at e.begin j ≤ at v j
 none_missing count v e long h zero n = omega arith
 none_missing count v e long h (suc k) n = elim (cases_lt k count) [
   | inl l ↦ elim (fails_at (suc k == e.origin) (nat_lt (at v (suc k)) (at e.begin (suc k)))
-      (each_range (λ j. (not (j == e.origin) && nat_lt (at v j) (at e.begin j)) ≡ false) 1 count (find_none (λ j. not (j == e.origin) && nat_lt (at v j) (at e.begin j)) (sites_to count) h) (suc k) (omega arith) (omega arith))) [
+      (each_range (λ j. (not (j == e.origin) && nat_lt (at v j) (at e.begin j)) ≡ false) 1 count
+      (find_none (λ j. not (j == e.origin) && nat_lt (at v j) (at e.begin j)) (sites_to count) h) (suc k) (omega arith) (omega arith))) [
         | inl p ↦ absurd (n (eqb-true (suc k) e.origin p))
         | inr q ↦ ltb-false (at v (suc k)) (at e.begin (suc k)) q
       ]
@@ -191,9 +207,12 @@ inside_at true false h p = absurd (false≢true (sym h))
 inside_at false b h p = absurd (false≢true p)
 
 -- no entry is inside that began above
-pub none_unclosed : (count : ℕ) (v : List ℕ) (es : List Entry) → Each (λ e. length e.begin ≡ count) es → find (λ e. is_inside v e && not (is_at_most e.begin v)) (reverse es) ≡ None
+pub none_unclosed : (count : ℕ) (v : List ℕ) (es : List Entry) → Each (λ e. length e.begin ≡ count) es
+    → find (λ e. is_inside v e && not (is_at_most e.begin v)) (reverse es) ≡ None
     → Each (λ e. e.seq ≤ at v e.origin → (j : ℕ) → at e.begin j ≤ at v j) es
 none_unclosed count v es long h =
-    each_map2 (λ e. length e.begin ≡ count) (λ e. (is_inside v e && not (is_at_most e.begin v)) ≡ false) (λ e. e.seq ≤ at v e.origin → (j : ℕ) → at e.begin j ≤ at v j)
-    (λ e l f k. at_most count e.begin v l (is_none_true (first_above e.begin v) (inside_at (is_inside v e) (is_at_most e.begin v) f (le-leb e.seq (at v e.origin) k))))
+    each_map2 (λ e. length e.begin ≡ count) (λ e. (is_inside v e && not (is_at_most e.begin v)) ≡ false)
+    (λ e. e.seq ≤ at v e.origin → (j : ℕ) → at e.begin j ≤ at v j)
+    (λ e l f k. at_most count e.begin v l (is_none_true (first_above e.begin v)
+    (inside_at (is_inside v e) (is_at_most e.begin v) f (le-leb e.seq (at v e.origin) k))))
     es long (each_reverse (λ e. (is_inside v e && not (is_at_most e.begin v)) ≡ false) es (find_none _ (reverse es) h))

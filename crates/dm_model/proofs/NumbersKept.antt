@@ -1,5 +1,6 @@
 -- What each step keeps of the counts and vectors: stated of what a past gives, of which a step changes little.
-use Rattle.std.proofs.Common.{ℕ, suc, ◌<◌, ◌≤◌, ◌≡◌, ◌≢◌, Bool, true, false, List, ◌∷◌, Option, Some, None, length, refl, sym, ap, ◌∙◌, subst, ap₂, arith, inl, inr, ◌⊎◌}
+use Rattle.std.proofs.Common.{ℕ, suc, ◌<◌, ◌≤◌, ◌≡◌, ◌≢◌, Bool, true, false, List, ◌∷◌, Option, Some, None, length, refl, sym, ap, ◌∙◌, subst, ap₂, arith, inl}
+use Rattle.std.proofs.Common.{inr, ◌⊎◌}
 use Rattle.std.proofs.lemmas.Bool.{cases_eq, false≢true, false_from_ne_true}
 use Rattle.std.specs.List.{AllByRecursion as Each}
 use Rattle.dm_event.specs.Vectors.{at}
@@ -60,7 +61,8 @@ wider count f g v le w = record { long = w.long; below = λ j. (let a = w.below 
 began_wider : (count : ℕ) (f g : ℕ → ℕ) (o : Option (List ℕ)) → ((j : ℕ) → f j ≤ g j) → Began count f o → Began count g o
 began_wider count f g o le b = record { begin = b.begin; is = b.is; within = wider count f g b.begin le b.within }
 
-doubt_wider : (count : ℕ) (c c' : Counts) (i : ℕ) (p : Option Pending) → count_at i c'.entries ≡ count_at i c.entries → ((j : ℕ) → c.reached i j ≤ c'.reached i j)
+doubt_wider : (count : ℕ) (c c' : Counts) (i : ℕ) (p : Option Pending) → count_at i c'.entries ≡ count_at i c.entries
+    → ((j : ℕ) → c.reached i j ≤ c'.reached i j)
     → InDoubt count c i p → InDoubt count c' i p
 doubt_wider count c c' i None same le h = tt
 doubt_wider count c c' i (Some (pending.Commit e)) same le h = record {
@@ -135,12 +137,14 @@ module _ (count : ℕ) (c : Counts) (s : Sound count c) (c' : Counts) where
 
   -- a site that is up takes the next entry of another origin
   pub refreshed : (i o : ℕ) (e : Entry) → o ≢ i
-      → Each (λ d. d.origin ≡ o → d.seq ≡ suc (c.reached i o) → d ≡ e) c.entries → c.reached i o < count_at o c.entries → ((j : ℕ) → at e.begin j ≤ c.reached i j)
+      → Each (λ d. d.origin ≡ o → d.seq ≡ suc (c.reached i o) → d ≡ e) c.entries → c.reached i o < count_at o c.entries
+      → ((j : ℕ) → at e.begin j ≤ c.reached i j)
       → c'.reached i o ≡ suc (c.reached i o) → ((k j : ℕ) → ((k ≡ i) × (j ≡ o)) ⊎ (c'.reached k j ≡ c.reached k j))
       → Sound count (record c { reached = c'.reached })
   refreshed i o e n one more le up' same =
       let mono : (k j : ℕ) → c.reached k j ≤ c'.reached k j = λ k j. elim (same k j) [
-        | inl p ↦ (let a : c'.reached k j ≡ c'.reached i o = ap₂ c'.reached p.0 p.1 in let b : c.reached k j ≡ c.reached i o = ap₂ c.reached p.0 p.1 in omega arith)
+        | inl p ↦ (let a : c'.reached k j ≡ c'.reached i o = ap₂ c'.reached p.0 p.1 in let b : c.reached k j ≡ c.reached i o = ap₂ c.reached p.0 p.1 in
+            omega arith)
         | inr q ↦ omega (arith, q)
       ] in
       record {
@@ -149,7 +153,8 @@ module _ (count : ℕ) (c : Counts) (s : Sound count c) (c' : Counts) where
         own = λ k. elim (same k k) [ inl p ↦ absurd (n (sym p.1 ∙ p.0)) | inr q ↦ (q ∙ s.own k) ];
         closed = λ k. elim (cases_eq k i) [
           | inl p ↦ subst (λ (x : ℕ). ClosedBy c.entries (c'.reached x)) (sym p)
-              (closed_next c.entries (c.reached i) (c'.reached i) o e (s.closed i) one more up' (λ j m. elim (same i j) [ inl q ↦ absurd (m q.1) | inr q ↦ q ]) le)
+              (closed_next c.entries (c.reached i) (c'.reached i) o e (s.closed i) one more up' (λ j m. elim (same i j) [ inl q ↦ absurd (m q.1) | inr q ↦ q ])
+              le)
           | inr m ↦ closed_same c.entries (c.reached k) (c'.reached k) (λ j. elim (same k j) [ inl q ↦ absurd (m q.0) | inr q ↦ q ]) (s.closed k)
         ];
         running = λ k t r. began_wider count (c.reached k) (c'.reached k) (c.begins t) (mono k) (s.running k t r);
@@ -168,7 +173,8 @@ module _ (count : ℕ) (c : Counts) (s : Sound count c) (c' : Counts) where
   entered e num w up' same r d =
       let i : ℕ = e.origin in
       let mono : (k j : ℕ) → c.reached k j ≤ c'.reached k j = λ k j. elim (same k j) [
-        | inl p ↦ (let a : c'.reached k j ≡ c'.reached i i = ap₂ c'.reached p.0 p.1 in let b : c.reached k j ≡ c.reached i i = ap₂ c.reached p.0 p.1 in omega arith)
+        | inl p ↦ (let a : c'.reached k j ≡ c'.reached i i = ap₂ c'.reached p.0 p.1 in let b : c.reached k j ≡ c.reached i i = ap₂ c.reached p.0 p.1 in
+            omega arith)
         | inr q ↦ omega (arith, q)
       ] in
       let o = s.own i in
@@ -183,7 +189,8 @@ module _ (count : ℕ) (c : Counts) (s : Sound count c) (c' : Counts) where
         ];
         closed = λ k. elim (cases_eq k i) [
           | inl p ↦ subst (λ (x : ℕ). ClosedBy (e ∷ c.entries) (c'.reached x)) (sym p)
-              (closed_own e c.entries (c.reached i) (c'.reached i) num' (s.closed i) o up' (λ j m. elim (same i j) [ inl q ↦ absurd (m q.1) | inr q ↦ q ]) w.below)
+              (closed_own e c.entries (c.reached i) (c'.reached i) num' (s.closed i) o up' (λ j m. elim (same i j) [ inl q ↦ absurd (m q.1) | inr q ↦ q ])
+              w.below)
           | inr m ↦ closed_same (e ∷ c.entries) (c.reached k) (c'.reached k) (λ j. elim (same k j) [ inl q ↦ absurd (m q.0) | inr q ↦ q ])
               (closed_more e c.entries (c.reached k) num' (s.closed k))
         ];
@@ -192,7 +199,8 @@ module _ (count : ℕ) (c : Counts) (s : Sound count c) (c' : Counts) where
         up = λ k t h. false_from_ne_true (c'.down k) (λ x. false≢true (sym (s.up k t (r k t h)) ∙ (sym (d k x).still ∙ x)));
         in_doubt = λ k h. (let x = d k h in
             subst (λ (p : Option Pending). InDoubt count (record c { entries = e ∷ c.entries; reached = c'.reached }) k p) (sym x.same)
-            (doubt_wider count c (record c { entries = e ∷ c.entries; reached = c'.reached }) k (c.doubt k) (count_other e c.entries k (λ y. x.other (sym y))) (mono k)
+            (doubt_wider count c (record c { entries = e ∷ c.entries; reached = c'.reached }) k (c.doubt k) (count_other e c.entries k (λ y. x.other (sym y)))
+            (mono k)
             (s.in_doubt k (sym x.still ∙ h))));
       }
     where
@@ -222,6 +230,7 @@ module _ (count : ℕ) (c : Counts) (s : Sound count c) (c' : Counts) where
     up = λ k t h. (let x = r k t h in elim (d k) [ inl q ↦ q.1 | inr q ↦ (q.1 ∙ s.up k t x.1) ]);
     in_doubt = λ k h. elim (d k) [
       | inl q ↦ absurd (false≢true (sym q.1 ∙ h))
-      | inr q ↦ doubt_wider count c (record c { reached = c'.reached }) k (c.doubt k) refl (λ j. (let e = same k j q.0 in omega arith)) (s.in_doubt k (sym q.1 ∙ h))
+      | inr q ↦ doubt_wider count c (record c { reached = c'.reached }) k (c.doubt k) refl (λ j. (let e = same k j q.0 in omega arith))
+          (s.in_doubt k (sym q.1 ∙ h))
     ];
   }

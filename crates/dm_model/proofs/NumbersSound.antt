@@ -1,5 +1,6 @@
 -- In every legal past the counts and vectors are sound: entries are numbered, and what sites and attempts have is closed.
-use Rattle.std.proofs.Common.{ℕ, zero, suc, ◌+◌, ◌≤◌, ◌≡◌, ◌≢◌, Bool, true, false, ◌==◌, ◌&&◌, cond, List, [], ◌∷◌, ◌++◌, Option, Some, None, length, refl, sym, ap, ◌∙◌, subst, arith, inl, inr, ◌⊎◌, unwrap_or}
+use Rattle.std.proofs.Common.{ℕ, zero, suc, ◌+◌, ◌≤◌, ◌≡◌, ◌≢◌, Bool, true, false, ◌==◌, ◌&&◌, cond, List, [], ◌∷◌, ◌++◌, Option, Some, None, length, refl, sym}
+use Rattle.std.proofs.Common.{ap, ◌∙◌, subst, arith, inl, inr, ◌⊎◌, unwrap_or}
 use Rattle.std.proofs.lemmas.Bool.{cases_Bool, cases_eq, eqb-true, eqb-false, eq-eqb, ne_eqb, cond-true, cond-false, false≢true}
 use Rattle.std.specs.List.{AllByRecursion as Each}
 use Rattle.std.specs.Prelude.{option_map, option_to_list, filter_map}
@@ -49,7 +50,11 @@ SoundPast layout past = Sound layout.sites (counts past)
 
 -- nothing runs at its site
 pub doubt_stops : (past : List Step) (site : ℕ) (p : Pending) (k : ℕ) (u : TxnId) → runs k u (Doubt site p ∷ past) ≡ true → (runs k u past ≡ true) × (k ≢ site)
-doubt_stops past site p k u r = elim (ran (site == k) false _ r) [ inl q ↦ absurd (false≢true q.now) | inr q ↦ (q.before, λ e. eqb-false site k q.test (sym e)) ]
+doubt_stops past site p k u r = elim (ran (site == k) false _ r) [
+  | inl q ↦ absurd (false≢true q.now)
+  | inr q ↦
+      (q.before, λ e. eqb-false site k q.test (sym e))
+]
 
 -- the step is in doubt there, and other sites stay as they are
 pub doubt_waits : (past : List Step) (site : ℕ) (p : Pending) (k : ℕ) → ((k ≡ site) × (pending_at k (Doubt site p ∷ past) ≡ Some p))
@@ -98,11 +103,13 @@ module _ (layout : Layout) (past : List Step) (s : SoundPast layout past) where
       subst (λ (x : List ℕ). Within layout.sites (λ j. reached e.origin j past) x) same old.within
 
   reached_entry : (e : Entry) (k j : ℕ) (b : Bool) → (k == j) ≡ b
-      → ((k ≡ e.origin) × (j ≡ e.origin)) ⊎ (cond b (count_at k (e ∷ entries past)) (refreshed k j past) ≡ cond b (count_at k (entries past)) (refreshed k j past))
+      → ((k ≡ e.origin) × (j ≡ e.origin)) ⊎
+      (cond b (count_at k (e ∷ entries past)) (refreshed k j past) ≡ cond b (count_at k (entries past)) (refreshed k j past))
   reached_entry e k j true h = elim (cases_eq e.origin k) [ inl p ↦ inl (sym p, sym (eqb-true k j h) ∙ sym p) | inr n ↦ inr (count_other e (entries past) k n) ]
   reached_entry e k j false h = inr refl
 
-  reached_up : (e : Entry) → cond (e.origin == e.origin) (count_at e.origin (e ∷ entries past)) (refreshed e.origin e.origin past) ≡ suc (reached e.origin e.origin past)
+  reached_up : (e : Entry) → cond (e.origin == e.origin) (count_at e.origin (e ∷ entries past)) (refreshed e.origin e.origin past) ≡ suc
+      (reached e.origin e.origin past)
   reached_up e = cond-true (e.origin == e.origin) _ _ (eq-eqb e.origin e.origin refl) ∙ count_own e (entries past) e.origin refl ∙ ap suc (sym (s.own e.origin))
 
   commits : (e : Entry) → Allowed layout past (Commit e) → SoundPast layout (Commit e ∷ past)
@@ -126,7 +133,8 @@ module _ (layout : Layout) (past : List Step) (s : SoundPast layout past) where
       let legal = legal_refresh layout past site origin h in
       let e : Entry = legal.entry in
       let next : ℕ = at (site_vector layout.sites past site) origin + 1 in
-      let here : at (site_vector layout.sites past site) origin ≡ reached site origin past = at_by layout.sites (λ j. reached site j past) origin legal.there.one legal.there.top in
+      let here : at (site_vector layout.sites past site) origin ≡ reached site origin past =
+      at_by layout.sites (λ j. reached site j past) origin legal.there.one legal.there.top in
       let got = found_entry (entries past) origin next e s.numbered legal.next in
       let seq : e.seq ≡ suc (reached site origin past) = (let a = got.seq in omega arith) in
       let own = got.own in
@@ -167,7 +175,8 @@ module _ (layout : Layout) (past : List Step) (s : SoundPast layout past) where
   pub refreshed_own : (site : ℕ) (vector : List ℕ) (found : Found) (j : ℕ) → refreshed site j (Restart site vector found ∷ past) ≡ at vector j
   refreshed_own site vector found j = rw (eq-eqb site site refl) (omega arith)
 
-  pub refreshed_other : (site : ℕ) (vector : List ℕ) (found : Found) (k j : ℕ) → k ≢ site → refreshed k j (Restart site vector found ∷ past) ≡ refreshed k j past
+  pub refreshed_other : (site : ℕ) (vector : List ℕ) (found : Found) (k j : ℕ) → k ≢ site
+      → refreshed k j (Restart site vector found ∷ past) ≡ refreshed k j past
   refreshed_other site vector found k j n = rw (ne_eqb site k (λ p. n (sym p))) refl
 
   -- what a Restart leaves, where the entries are these
@@ -237,16 +246,19 @@ module _ (layout : Layout) (past : List Step) (s : SoundPast layout past) where
   bumped_other : (site k j n : ℕ) → k ≢ site → cond ((k == site) && (j == site)) (suc n) n ≡ n
   bumped_other site k j n m = rw (ne_eqb k site m) refl
 
-  resets_kept : (site : ℕ) (vector : List ℕ) (o : Option Pending) → InDoubt layout.sites (counts past) site o → MaySet layout past site vector (kept_past site o)
+  resets_kept : (site : ℕ) (vector : List ℕ) (o : Option Pending) → InDoubt layout.sites (counts past) site o
+      → MaySet layout past site vector (kept_past site o)
       → Sound layout.sites (reset site vector Kept (kept_entries site o))
   resets_kept site vector None d set = resets_alone site vector Kept past refl set
   resets_kept site vector (Some (pending.Release part epoch to v)) d set = resets_alone site vector Kept (Release site part epoch to v ∷ past) refl set
   resets_kept site vector (Some (pending.Grant part epoch v)) d set = resets_alone site vector Kept (Grant site part epoch v ∷ past) refl set
   resets_kept site vector (Some (pending.Commit e)) d set =
       let closed = set_closed site vector (Commit e ∷ past) set (d.within.long, s.sized) (λ j. count_more e (entries past) j) in
-      let off : is_down site (Restart site vector Kept ∷ past) ≡ false = ap (λ (o : Option Bool). unwrap_or o false) (taken (site == site) false _ (eq-eqb site site refl)) in
+      let off : is_down site (Restart site vector Kept ∷ past) ≡ false =
+      ap (λ (o : Option Bool). unwrap_or o false) (taken (site == site) false _ (eq-eqb site site refl)) in
       let num : e.seq ≡ suc (count_at e.origin (entries past)) = d.seq ∙ ap (λ (x : ℕ). suc (count_at x (entries past))) (sym d.own) in
-      let w : Within layout.sites (λ j. reached e.origin j past) e.begin = subst (λ (x : ℕ). Within layout.sites (λ j. reached x j past) e.begin) (sym d.own) d.within in
+      let w : Within layout.sites (λ j. reached e.origin j past) e.begin =
+      subst (λ (x : ℕ). Within layout.sites (λ j. reached x j past) e.begin) (sym d.own) d.within in
       let after : Counts = record (reset site vector Kept (e ∷ entries past)) { reached = bumped e.origin } in
       let z = sound.entered layout.sites (stopped site vector Kept) (stops site vector Kept) after e num w
       (rw (eq-eqb e.origin e.origin refl) refl) (λ k j. bumped_cases e.origin k j (k == e.origin) (j == e.origin) refl refl _)
@@ -260,7 +272,8 @@ module _ (layout : Layout) (past : List Step) (s : SoundPast layout past) where
       (λ k j m. ap (λ (x : ℕ). cond (k == j) x (refreshed k j past)) (count_other e (entries past) k (λ p. m (sym p ∙ d.own)))
       ∙ sym (bumped_other e.origin k j _ (λ p. m (p ∙ d.own)))) closed set.own
 
-  restarts : (site : ℕ) (vector : List ℕ) (found : Found) → Allowed layout past (Restart site vector found) → SoundPast layout (Restart site vector found ∷ past)
+  restarts : (site : ℕ) (vector : List ℕ) (found : Found) → Allowed layout past (Restart site vector found)
+      → SoundPast layout (Restart site vector found ∷ past)
   restarts site vector found h = (let legal = legal_restart layout past site vector found h in by_found found legal.fits legal.may_set)
     where
       by_found : (found : Found) → found_fits found (is_down site past) ≡ true → MaySet layout past site vector (with_kept site found past)

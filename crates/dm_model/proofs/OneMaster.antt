@@ -1,5 +1,6 @@
 -- In every legal past each partition has one master, and none only during its hand-over.
-use Rattle.std.proofs.Common.{ℕ, zero, suc, ◌<◌, ◌≡◌, Bool, true, false, not, ◌==◌, ◌&&◌, ◌||◌, if◌then◌else◌, List, [], ◌∷◌, ◌++◌, Option, Some, None, refl, sym, ap, ◌∙◌, subst, arith, inl, inr, unwrap_or}
+use Rattle.std.proofs.Common.{ℕ, zero, suc, ◌<◌, ◌≡◌, Bool, true, false, not, ◌==◌, ◌&&◌, ◌||◌, if◌then◌else◌, List, [], ◌∷◌, ◌++◌, Option, Some, None, refl}
+use Rattle.std.proofs.Common.{sym, ap, ◌∙◌, subst, arith, inl, inr, unwrap_or}
 use Rattle.std.proofs.lemmas.Bool.{eqb-true, eq-eqb, ne_eqb, false≢true, and_parts, and_from, or_cases, false_from_ne_true}
 use Rattle.std.specs.List.{list_any}
 use Rattle.std.specs.Prelude.{option_map, option_to_list, slice_index}
@@ -79,12 +80,14 @@ replaced layout ds p x y h a = record {
   free = a.free ∙ sym h.free;
 }
 
-by_test : (layout : Layout) (ds : List Step) (p : ℕ) (f : Placing → Placing) (b : Bool) (x : Placing) → Agree layout ds p x → Agree layout ds p (f x) → Agree layout ds p (if b then f x else x)
+by_test : (layout : Layout) (ds : List Step) (p : ℕ) (f : Placing → Placing) (b : Bool) (x : Placing) → Agree layout ds p x → Agree layout ds p (f x)
+    → Agree layout ds p (if b then f x else x)
 by_test layout ds p f true x a c = c
 by_test layout ds p f false x a c = a
 
 -- a Release of the partition by its master, and one of another
-release_agrees : (layout : Layout) (ds : List Step) (p site part epoch to : ℕ) (vector : List ℕ) (x : Placing) (to' : ℕ) → Agree layout ds p x → (part ≡ p → x ≡ Asked site epoch to')
+release_agrees : (layout : Layout) (ds : List Step) (p site part epoch to : ℕ) (vector : List ℕ) (x : Placing) (to' : ℕ) → Agree layout ds p x
+    → (part ≡ p → x ≡ Asked site epoch to')
     → Agree layout (Release site part epoch to vector ∷ ds) p (if part == p then Between site epoch to vector else x)
 release_agrees layout ds p site part epoch to vector x to' a h = by (part == p) refl
   where
@@ -109,8 +112,10 @@ release_agrees layout ds p site part epoch to vector x to' a h = by (part == p) 
     by true q =
         let w = h (eqb-true part p q) in
         record {
-          same = λ i e. subst (λ (t : Bool). ((opens_with layout i p e || list_any (grants i p e) ds) && not (((site == i) && (t && (epoch == e))) || list_any (releases i p e) ds)) ≡ false) (sym q)
-              (cut (opens_with layout i p e || list_any (grants i p e) ds) (list_any (releases i p e) ds) (gives x i e) (site == i) true (epoch == e) true (a.same i e) (ap (λ (z : Placing). gives z i e) w));
+          same = λ i e. subst (λ (t : Bool). ((opens_with layout i p e || list_any (grants i p e) ds)
+              && not (((site == i) && (t && (epoch == e))) || list_any (releases i p e) ds)) ≡ false) (sym q)
+              (cut (opens_with layout i p e || list_any (grants i p e) ds) (list_any (releases i p e) ds) (gives x i e) (site == i) true (epoch == e) true
+              (a.same i e) (ap (λ (z : Placing). gives z i e) w));
           before = λ i e r. elim (or_cases ((site == i) && ((part == p) && (epoch == e))) (list_any (releases i p e) ds) r) [
             | inl k ↦ (let f = eqb-true epoch e (and_parts (part == p) (epoch == e) (and_parts (site == i) _ k).1).1 in omega arith)
             | inr k ↦ (let f = a.before i e k in let g = ap bound w in omega arith)
@@ -118,7 +123,8 @@ release_agrees layout ds p site part epoch to vector x to' a h = by (part == p) 
           free = ap (λ (o : Option Bool). unwrap_or o false) (taken (part == p) true (latest (takes p) ds) q);
         }
     by false q = record {
-      same = λ i e. subst (λ (t : Bool). ((opens_with layout i p e || list_any (grants i p e) ds) && not (((site == i) && (t && (epoch == e))) || list_any (releases i p e) ds)) ≡ gives x i e) (sym q)
+      same = λ i e. subst (λ (t : Bool). ((opens_with layout i p e || list_any (grants i p e) ds)
+          && not (((site == i) && (t && (epoch == e))) || list_any (releases i p e) ds)) ≡ gives x i e) (sym q)
           (other (opens_with layout i p e || list_any (grants i p e) ds) (list_any (releases i p e) ds) (site == i) (epoch == e) ∙ a.same i e);
       before = λ i e r. elim (or_cases ((site == i) && ((part == p) && (epoch == e))) (list_any (releases i p e) ds) r) [
         | inl k ↦ absurd (none (site == i) (epoch == e) (subst (λ (t : Bool). ((site == i) && (t && (epoch == e))) ≡ true) q k))
@@ -127,7 +133,8 @@ release_agrees layout ds p site part epoch to vector x to' a h = by (part == p) 
       free = ap (λ (o : Option Bool). unwrap_or o false) (passed (part == p) true (latest (takes p) ds) q) ∙ a.free;
     }
 
-grant_agrees : (layout : Layout) (ds : List Step) (p site part epoch s b to : ℕ) (vector v : List ℕ) (x : Placing) → Agree layout ds p x → (part ≡ p → x ≡ Between s b to v) → epoch ≡ suc b
+grant_agrees : (layout : Layout) (ds : List Step) (p site part epoch s b to : ℕ) (vector v : List ℕ) (x : Placing) → Agree layout ds p x
+    → (part ≡ p → x ≡ Between s b to v) → epoch ≡ suc b
     → Agree layout (Grant site part epoch vector ∷ ds) p (if part == p then Granted site epoch else x)
 grant_agrees layout ds p site part epoch s b to vector v x a h next = by (part == p) refl
   where
@@ -145,14 +152,18 @@ grant_agrees layout ds p site part epoch s b to vector v x a h next = by (part =
     by true q =
         let w = h (eqb-true part p q) in
         record {
-          same = λ i e. subst (λ (t : Bool). ((opens_with layout i p e || (((site == i) && (t && (epoch == e))) || list_any (grants i p e) ds)) && not (list_any (releases i p e) ds)) ≡ ((site == i) && (epoch == e))) (sym q)
-              (put' (opens_with layout i p e) (list_any (grants i p e) ds) (list_any (releases i p e) ds) ((site == i) && (epoch == e)) (a.same i e ∙ ap (λ (z : Placing). gives z i e) w)
-              (λ k. false_from_ne_true _ (λ r. absurd (let f = a.before i e r in let g = ap bound w in let m = eqb-true epoch e (and_parts (site == i) (epoch == e) k).1 in omega arith))));
+          same = λ i e. subst (λ (t : Bool). ((opens_with layout i p e || (((site == i) && (t && (epoch == e))) || list_any (grants i p e) ds))
+              && not (list_any (releases i p e) ds)) ≡ ((site == i) && (epoch == e))) (sym q)
+              (put' (opens_with layout i p e) (list_any (grants i p e) ds) (list_any (releases i p e) ds) ((site == i) && (epoch == e))
+              (a.same i e ∙ ap (λ (z : Placing). gives z i e) w)
+              (λ k. false_from_ne_true _ (λ r. absurd (let f = a.before i e r in let g = ap bound w in let m =
+              eqb-true epoch e (and_parts (site == i) (epoch == e) k).1 in omega arith))));
           before = λ i e r. (let f = a.before i e r in let g = ap bound w in omega arith);
           free = ap (λ (o : Option Bool). unwrap_or o false) (taken (part == p) false (latest (takes p) ds) q);
         }
     by false q = record {
-      same = λ i e. subst (λ (t : Bool). ((opens_with layout i p e || (((site == i) && (t && (epoch == e))) || list_any (grants i p e) ds)) && not (list_any (releases i p e) ds)) ≡ gives x i e) (sym q)
+      same = λ i e. subst (λ (t : Bool). ((opens_with layout i p e || (((site == i) && (t && (epoch == e))) || list_any (grants i p e) ds))
+          && not (list_any (releases i p e) ds)) ≡ gives x i e) (sym q)
           (other (opens_with layout i p e) (list_any (grants i p e) ds) (list_any (releases i p e) ds) (site == i) (epoch == e) ∙ a.same i e);
       before = a.before;
       free = ap (λ (o : Option Bool). unwrap_or o false) (passed (part == p) false (latest (takes p) ds) q) ∙ a.free;
@@ -165,19 +176,24 @@ abbrev pub AgreePast : Layout → List Step → Type 0
 AgreePast layout past = (p : ℕ) → Agree layout (acts past) p (placing layout past p)
 
 kept_agrees : (layout : Layout) (past : List Step) (site : ℕ) (o : Option Pending) → Held (part_of layout) (mastery layout past) site o → AgreePast layout past
-    → (p : ℕ) → Agree layout (option_to_list (option_map (step_of site) o) ++ acts past) p (after_acts p (option_to_list (option_map (step_of site) o)) (placing layout past p))
+    → (p : ℕ) → Agree layout (option_to_list (option_map (step_of site) o) ++ acts past) p
+    (after_acts p (option_to_list (option_map (step_of site) o)) (placing layout past p))
 kept_agrees layout past site None h a p = a p
 kept_agrees layout past site (Some (pending.Commit e)) h a p = commit_agrees layout (acts past) p e (placing layout past p) (a p)
 kept_agrees layout past site (Some (pending.Release part epoch to v)) h a p =
     release_agrees layout (acts past) p site part epoch to v (placing layout past p) to (a p) (λ q. ap (placing layout past) (sym q) ∙ h.asked)
 kept_agrees layout past site (Some (pending.Grant part epoch v)) h a p =
-    grant_agrees layout (acts past) p site part epoch h.from h.old site v v (placing layout past p) (a p) (λ q. ap (placing layout past) (sym q) ∙ h.between) h.next
+    grant_agrees layout (acts past) p site part epoch h.from h.old site v v (placing layout past p) (a p) (λ q. ap (placing layout past) (sym q) ∙ h.between)
+    h.next
 
-pub agree_step : (layout : Layout) (past : List Step) (s : Step) → SoundPast layout past → Seated past → MasteredPast layout past → Allowed layout past s → AgreePast layout past → AgreePast layout (s ∷ past)
+pub agree_step : (layout : Layout) (past : List Step) (s : Step) → SoundPast layout past → Seated past → MasteredPast layout past → Allowed layout past s
+    → AgreePast layout past → AgreePast layout (s ∷ past)
 agree_step layout past (Ask part epoch to txn) n seat m h a =
-    λ p. by_test layout (acts past) p (λ x. asked x to) (part == p) (placing layout past p) (a p) (replaced layout (acts past) p (placing layout past p) (asked (placing layout past p) to) (asked_same (placing layout past p) to) (a p))
+    λ p. by_test layout (acts past) p (λ x. asked x to) (part == p) (placing layout past p) (a p)
+    (replaced layout (acts past) p (placing layout past p) (asked (placing layout past p) to) (asked_same (placing layout past p) to) (a p))
 agree_step layout past (Settle part epoch) n seat m h a =
-    λ p. by_test layout (acts past) p settled (part == p) (placing layout past p) (a p) (replaced layout (acts past) p (placing layout past p) (settled (placing layout past p)) (settled_same (placing layout past p)) (a p))
+    λ p. by_test layout (acts past) p settled (part == p) (placing layout past p) (a p)
+    (replaced layout (acts past) p (placing layout past p) (settled (placing layout past p)) (settled_same (placing layout past p)) (a p))
 agree_step layout past (Commit e) n seat m h a = λ p. commit_agrees layout (acts past) p e (placing layout past p) (a p)
 agree_step layout past (Release site part epoch to vector) n seat m h a =
     let legal = legal_release layout past site part epoch to vector h in
@@ -208,13 +224,17 @@ nothing_yet layout p = record {
 
 pub agree_past : (layout : Layout) (past : List Step) → LegalPast layout past → AgreePast layout past
 agree_past layout [] h = nothing_yet layout
-agree_past layout (s ∷ past) h = agree_step layout past s (sound_past layout past h.0) (seated layout past h.0) (mastered_past layout past h.0) h.1 (agree_past layout past h.0)
+agree_past layout (s ∷ past) h = agree_step layout past s (sound_past layout past h.0) (seated layout past h.0) (mastered_past layout past h.0) h.1
+    (agree_past layout past h.0)
 
 one_given : (pl : Placing) (i k e f : ℕ) → gives pl i e ≡ true → gives pl k f ≡ true → (i ≡ k) × (e ≡ f)
-one_given (Settled site epoch) i k e f g h = (let a = and_parts (site == i) (epoch == e) g in let b = and_parts (site == k) (epoch == f) h in (sym (eqb-true site i a.0) ∙ eqb-true site k b.0, sym (eqb-true epoch e a.1) ∙ eqb-true epoch f b.1))
-one_given (Asked site epoch to) i k e f g h = (let a = and_parts (site == i) (epoch == e) g in let b = and_parts (site == k) (epoch == f) h in (sym (eqb-true site i a.0) ∙ eqb-true site k b.0, sym (eqb-true epoch e a.1) ∙ eqb-true epoch f b.1))
+one_given (Settled site epoch) i k e f g h = (let a = and_parts (site == i) (epoch == e) g in let b = and_parts (site == k) (epoch == f) h in
+    (sym (eqb-true site i a.0) ∙ eqb-true site k b.0, sym (eqb-true epoch e a.1) ∙ eqb-true epoch f b.1))
+one_given (Asked site epoch to) i k e f g h = (let a = and_parts (site == i) (epoch == e) g in let b = and_parts (site == k) (epoch == f) h in
+    (sym (eqb-true site i a.0) ∙ eqb-true site k b.0, sym (eqb-true epoch e a.1) ∙ eqb-true epoch f b.1))
 one_given (Between site epoch to vector) i k e f g h = absurd (false≢true g)
-one_given (Granted site epoch) i k e f g h = (let a = and_parts (site == i) (epoch == e) g in let b = and_parts (site == k) (epoch == f) h in (sym (eqb-true site i a.0) ∙ eqb-true site k b.0, sym (eqb-true epoch e a.1) ∙ eqb-true epoch f b.1))
+one_given (Granted site epoch) i k e f g h = (let a = and_parts (site == i) (epoch == e) g in let b = and_parts (site == k) (epoch == f) h in
+    (sym (eqb-true site i a.0) ∙ eqb-true site k b.0, sym (eqb-true epoch e a.1) ∙ eqb-true epoch f b.1))
 
 none_given : (pl : Placing) → is_free pl ≡ true → (i e : ℕ) → gives pl i e ≡ false
 none_given (Settled site epoch) h i e = absurd (false≢true h)
@@ -246,7 +266,8 @@ one_here layout past a p = record {
   some = λ b. (let x = some_given (placing layout past p) (sym (a p).free ∙ b) in (x.0, x.1.epoch, (a p).same x.0 x.1.epoch ∙ x.1.is));
 }
 
-writes_here : (layout : Layout) (past : List Step) (s : Step) → SoundPast layout past → Seated past → MasteredPast layout past → Allowed layout past s → AgreePast layout past → WritesMastered layout past (acts_of s past)
+writes_here : (layout : Layout) (past : List Step) (s : Step) → SoundPast layout past → Seated past → MasteredPast layout past → Allowed layout past s
+    → AgreePast layout past → WritesMastered layout past (acts_of s past)
 writes_here layout past (Commit e) n seat m h a = λ key w. (
     let masters = (commit_holds layout past n seat m e (legal_commit layout past e h) key w).masters in
     let x = master_given (placing layout past (part_of layout key)) e.origin masters in

@@ -1,5 +1,6 @@
 -- An attempt that runs is its session's last, and the session's state says so.
-use Rattle.std.proofs.Common.{ℕ, ◌≡◌, ◌≢◌, Bool, true, false, ◌==◌, if◌then◌else◌, List, [], ◌∷◌, Some, None, refl, sym, ap, ◌∙◌, subst, inl, inr, unwrap_or, ◌&&◌}
+use Rattle.std.proofs.Common.{ℕ, ◌≡◌, ◌≢◌, Bool, true, false, ◌==◌, if◌then◌else◌, List, [], ◌∷◌, Some, None, refl, sym, ap, ◌∙◌, subst, inl, inr, unwrap_or}
+use Rattle.std.proofs.Common.{◌&&◌}
 use Rattle.std.proofs.lemmas.Bool.{cases_Bool, eqb-true, eqb-false, eq-eqb, ne_eqb, cond-false, false≢true, and_parts}
 use Rattle.std.specs.Option.{option_map_or}
 use Rattle.dm_event.specs.Txns.{same_txn}
@@ -50,7 +51,8 @@ one_seat past i k t u a b e =
     record { txn = sym a.same ∙ ap (λ (x : Routing). x.txn) same ∙ b.same; site = cc (a.runs, b.runs, st) }
 
 -- a seat stays, where the step is not of its session and leaves its site alone
-pub stays : (past : List Step) (s : Step) (i : ℕ) (t : TxnId) → Seat past i t → state t.session (s ∷ past) ≡ Running i → last_routing t.session (s ∷ past) ≡ last_routing t.session past → Seat (s ∷ past) i t
+pub stays : (past : List Step) (s : Step) (i : ℕ) (t : TxnId) → Seat past i t → state t.session (s ∷ past) ≡ Running i
+    → last_routing t.session (s ∷ past) ≡ last_routing t.session past → Seat (s ∷ past) i t
 stays past s i t a e r = record { runs = e; last = a.last; routed = r ∙ a.routed; same = a.same }
 
 pub other_session : (b : Bool) (x : AttemptState) (st : AttemptState) → b ≡ false → unwrap_or (if b then Some x else None) st ≡ st
@@ -72,7 +74,8 @@ module _ (layout : Layout) (past : List Step) (s : Seated past) where
       false≢true (subst (λ (x : AttemptState). is_routed x ≡ true) st h)
 
   never_routed_for : (c i site : ℕ) (p : _) → state c past ≡ Running i → is_routed_for c site p past ≡ true → ⊥
-  never_routed_for c i site p st h = false≢true (subst (λ (x : AttemptState). option_map_or (λ r. (r.site == site) && p r.want) (if is_routed x then last_routing c past else None) false ≡ true) st h)
+  never_routed_for c i site p st h = false≢true
+      (subst (λ (x : AttemptState). option_map_or (λ r. (r.site == site) && p r.want) (if is_routed x then last_routing c past else None) false ≡ true) st h)
 
   not_said : (c i : ℕ) (o : Said) → state c past ≡ Running i → may_say layout past c o ≡ true → ⊥
   not_said c i (said.Committed site seq) st h = false≢true (subst (λ (x : AttemptState). is_committed x site seq ≡ true) st h)
@@ -89,20 +92,24 @@ module _ (layout : Layout) (past : List Step) (s : Seated past) where
       not_refused cause.Memory h = false≢true h
 
   -- a step that ends the run of an attempt leaves the other seats
-  other_ends : (k : ℕ) (txn : TxnId) (i : ℕ) (t : TxnId) → runs k txn past ≡ true → runs i t past ≡ true → same_txn t txn ≡ false → (txn.session == t.session) ≡ false
+  other_ends : (k : ℕ) (txn : TxnId) (i : ℕ) (t : TxnId) → runs k txn past ≡ true → runs i t past ≡ true → same_txn t txn ≡ false
+      → (txn.session == t.session) ≡ false
   other_ends k txn i t r h n = by_test (txn.session == t.session) refl
     where
       by_test : (b : Bool) → (txn.session == t.session) ≡ b → b ≡ false
       by_test false e = refl
-      by_test true e = absurd (false≢true (sym n ∙ ap (λ (x : TxnId). same_txn t x) (one_seat past k i txn t (s k txn r) (s i t h) (eqb-true txn.session t.session e)).txn ∙ txn_own t))
+      by_test true e = absurd (false≢true (sym n ∙ ap (λ (x : TxnId). same_txn t x)
+          (one_seat past k i txn t (s k txn r) (s i t h) (eqb-true txn.session t.session e)).txn ∙ txn_own t))
 
   pub seats : (st : Step) → Allowed layout past st → Seated (st ∷ past)
   seats (Route txn want min site choice) h i t r =
       let legal = legal_route layout past txn want min site choice h in
       let a = s i t r in
       elim (cases_Bool (txn.session == t.session)) [
-        | inl e ↦ absurd (false≢true (subst (λ (x : AttemptState). may_route x ≡ true) (ap (λ (c : ℕ). state c past) (eqb-true txn.session t.session e) ∙ a.runs) legal.further))
-        | inr e ↦ stays past (Route txn want min site choice) i t a (other_session _ (Routed site choice) _ e ∙ a.runs) (passed (txn.session == t.session) _ _ e)
+        | inl e ↦ absurd (false≢true (subst (λ (x : AttemptState). may_route x ≡ true)
+            (ap (λ (c : ℕ). state c past) (eqb-true txn.session t.session e) ∙ a.runs) legal.further))
+        | inr e ↦ stays past (Route txn want min site choice) i t a (other_session _ (Routed site choice) _ e ∙ a.runs)
+            (passed (txn.session == t.session) _ _ e)
       ]
   seats (Reply session number o) h i t r =
       let legal = legal_reply layout past session number o h in
@@ -116,12 +123,14 @@ module _ (layout : Layout) (past : List Step) (s : Seated past) where
       elim (ran (same_txn t txn) (site == i) _ r) [
         | inl p ↦ starts (txn_same t txn p.test) (eqb-true site i p.now) q
         | inr p ↦ (let a = s i t p.before in
-            stays past (Begin site txn begin) i t a (other_session _ (Running site) _ (ne_eqb txn.session t.session (not_routed i t txn p.before q.state)) ∙ a.runs) refl)
+            stays past (Begin site txn begin) i t a (other_session _ (Running site) _ (ne_eqb txn.session t.session (not_routed i t txn p.before q.state)) ∙
+            a.runs) refl)
       ]
     where
       starts : t ≡ txn → site ≡ i → Stands past txn → Seat (Begin site txn begin ∷ past) i t
       starts e f g = record {
-        runs = own_session (txn.session == t.session) (Running site) _ (eq-eqb txn.session t.session (ap (λ (y : TxnId). y.session) (sym e))) ∙ ap (λ (y : ℕ). Running y) f;
+        runs = own_session (txn.session == t.session) (Running site) _ (eq-eqb txn.session t.session (ap (λ (y : TxnId). y.session) (sym e)))
+            ∙ ap (λ (y : ℕ). Running y) f;
         last = g.route;
         routed = ap (λ (y : TxnId). last_routing y.session past) e ∙ g.last;
         same = sym g.same ∙ sym e;
@@ -154,7 +163,8 @@ module _ (layout : Layout) (past : List Step) (s : Seated past) where
       let n = eqb-false site i x.test in
       let a = s i t x.before in
       let other : (e.txn.session == t.session) ≡ false = elim (cases_Bool (e.txn.session == t.session)) [
-        | inl q ↦ absurd (n (sym legal.own ∙ (one_seat past e.origin i e.txn t (s e.origin e.txn legal.commit.runs) a (eqb-true e.txn.session t.session q)).site))
+        | inl q ↦ absurd (n (sym legal.own ∙
+            (one_seat past e.origin i e.txn t (s e.origin e.txn legal.commit.runs) a (eqb-true e.txn.session t.session q)).site))
         | inr q ↦ q
       ] in
       stays past (Doubt site (pending.Commit e)) i t a (other_session _ (Doubted site) _ other ∙ undropped site i _ a.runs n) refl

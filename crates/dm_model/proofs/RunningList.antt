@@ -1,5 +1,6 @@
 -- The list of the attempts that run at a site has each of them.
-use Rattle.std.proofs.Common.{ℕ, ◌≡◌, Bool, true, false, ◌==◌, cond, if◌then◌else◌, List, [], ◌∷◌, Option, Some, None, refl, sym, ◌∙◌, subst, inl, inr, ◌⊎◌, unwrap_or}
+use Rattle.std.proofs.Common.{ℕ, ◌≡◌, Bool, true, false, ◌==◌, cond, if◌then◌else◌, List, [], ◌∷◌, Option, Some, None, refl, sym, ◌∙◌, subst, inl, inr, ◌⊎◌}
+use Rattle.std.proofs.Common.{unwrap_or}
 use Rattle.std.proofs.lemmas.Bool.{false≢true, or_cases, or_left, or_right}
 use Rattle.std.specs.List.{AllByRecursion as Each, list_any, cons_option}
 use Rattle.std.specs.Option.{option_or}
@@ -18,13 +19,15 @@ use Rattle.dm_model.specs.Words.{latest}
 
 each_any : (P : TxnId → Type 0) (ts : List TxnId) (t : TxnId) → Each P ts → list_any (same_txn t) ts ≡ true → P t
 each_any P [] t h m = absurd (false≢true m)
-each_any P (u ∷ us) t h m = elim (or_cases (same_txn t u) (list_any (same_txn t) us) m) [ inl e ↦ subst P (sym (txn_same t u e)) h.0 | inr n ↦ each_any P us t h.1 n ]
+each_any P (u ∷ us) t h m = elim (or_cases (same_txn t u) (list_any (same_txn t) us) m)
+    [ inl e ↦ subst P (sym (txn_same t u e)) h.0 | inr n ↦ each_any P us t h.1 n ]
 
 each_filter : {X : Type 0} (P : X → Type 0) (p : X → Bool) (xs : List X) → Each P (filter p xs) → Each (λ x. p x ≡ true → P x) xs
 each_filter P p [] h = tt
 each_filter P p (x ∷ xs) h = by_test (λ g. each_filter P p xs g) (p x) refl h
   where
-    by_test : (Each P (filter p xs) → Each (λ y. p y ≡ true → P y) xs) → (b : Bool) → p x ≡ b → Each P (cond b (x ∷ filter p xs) (filter p xs)) → Each (λ y. p y ≡ true → P y) (x ∷ xs)
+    by_test : (Each P (filter p xs) → Each (λ y. p y ≡ true → P y) xs) → (b : Bool) → p x ≡ b → Each P (cond b (x ∷ filter p xs) (filter p xs))
+        → Each (λ y. p y ≡ true → P y) (x ∷ xs)
     by_test rest true e g = ((λ q. g.0), rest g.1)
     by_test rest false e g = ((λ q. absurd (false≢true (sym e ∙ q))), rest g)
 
@@ -52,7 +55,8 @@ begins_only i t (Begin site txn begin) h ts = by_test (same_txn t txn) refl h
     by_site true e f = or_left (same_txn t txn) _ e
     by_site false e f = absurd (false≢true f)
 
-    by_test : (b : Bool) → same_txn t txn ≡ b → (if b then Some (site == i) else None) ≡ Some true → list_any (same_txn t) (cons_option (if site == i then Some txn else None) ts) ≡ true
+    by_test : (b : Bool) → same_txn t txn ≡ b → (if b then Some (site == i) else None) ≡ Some true
+        → list_any (same_txn t) (cons_option (if site == i then Some txn else None) ts) ≡ true
     by_test true e g = by_site (site == i) e (cc (g))
     by_test false e g = absurd (cc (g))
 begins_only i t (Commit e) h ts = absurd (ends (same_txn t e.txn) h)
@@ -84,9 +88,11 @@ begun_any i t (s ∷ past) h = elim (run_step (runs_after i t s) (runs i t past)
 pub each_running : (P : TxnId → Type 0) (i : ℕ) (past : List Step) (t : TxnId) → Each P (running i past) → runs i t past ≡ true → P t
 each_running P i past t h r =
     each_any (λ u. runs i u past ≡ true → P u) (filter_map (begun_at i) past) t
-    (each_reverse (λ u. runs i u past ≡ true → P u) (filter_map (begun_at i) past) (each_filter P (λ u. runs i u past) (reverse (filter_map (begun_at i) past)) h))
+    (each_reverse (λ u. runs i u past ≡ true → P u) (filter_map (begun_at i) past)
+    (each_filter P (λ u. runs i u past) (reverse (filter_map (begun_at i) past)) h))
     (begun_any i t past r) r
 
-pub no_holder : (past : List Step) (keys : List ℕ) (ts : List TxnId) → holder_among keys ts past ≡ None → Each (λ t. common_key keys (declared t past) ≡ None) ts
+pub no_holder : (past : List Step) (keys : List ℕ) (ts : List TxnId) → holder_among keys ts past ≡ None
+    → Each (λ t. common_key keys (declared t past) ≡ None) ts
 no_holder past keys [] h = tt
 no_holder past keys (t ∷ ts) h = (let p = none_parts _ (holder_among keys ts past) h in (map_none _ _ p.0, no_holder past keys ts p.1))

@@ -24,7 +24,7 @@ txn_same a b h =
 pub txn_own : (a : TxnId) → same_txn a a ≡ true
 txn_own a = rw (eq-eqb a.session a.session refl, eq-eqb a.number a.number refl, eq-eqb a.attempt a.attempt refl) refl
 
-pair_same : (a b : Pair) → same_pair a b ≡ true → a ≡ b
+pub pair_same : (a b : Pair) → same_pair a b ≡ true → a ≡ b
 pair_same a b h =
     let p = and_parts (a.key == b.key) (int_eq a.value b.value) h in
     let x = eqb-true a.key b.key p.0 in

@@ -1,5 +1,6 @@
 -- In every legal past a session that is answered began at no vector below what it was answered before.
-use Rattle.std.proofs.Common.{ℕ, ◌≤◌, ◌≡◌, ◌≢◌, Bool, true, false, ◌==◌, ◌&&◌, if◌then◌else◌, List, [], ◌∷◌, ◌++◌, Option, Some, None, length, refl, sym, ap, ◌∙◌, subst, arith, inl, inr, unwrap_or, le_trans}
+use Rattle.std.proofs.Common.{ℕ, ◌≤◌, ◌≡◌, ◌≢◌, Bool, true, false, ◌==◌, ◌&&◌, if◌then◌else◌, List, [], ◌∷◌, ◌++◌, Option, Some, None, length, refl, sym, ap}
+use Rattle.std.proofs.Common.{◌∙◌, subst, arith, inl, inr, unwrap_or, le_trans}
 use Rattle.std.proofs.lemmas.Bool.{eqb-true, eq-eqb, ne_eqb, cond-true, cond-false, false≢true, and_parts, and_from, false_from_ne_true}
 use Rattle.std.specs.List.{cons_option}
 use Rattle.std.specs.Prelude.{find, option_map, option_to_list, filter_map}
@@ -94,9 +95,16 @@ still_above : (count : ℕ) (past past' : List Step) (c : ℕ) → answered c pa
     → AtMost (session_vector count past' c) v
 still_above count past past' c a v h = λ j. (let x = ap (λ (vs : List (List ℕ)). at (join_all count vs) j) a in let y = h j in omega arith)
 
-says_keep : (count : ℕ) (past past' : List Step) (c : ℕ) → answered c past' ≡ answered c past → last_routing c past' ≡ last_routing c past → last_begin c past' ≡ last_begin c past → EntriesStay past past'
+says_keep : (count : ℕ) (past past' : List Step) (c : ℕ) → answered c past' ≡ answered c past → last_routing c past' ≡ last_routing c past
+    → last_begin c past' ≡ last_begin c past → EntriesStay past past'
     → (st : AttemptState) → StateSays count past c st → StateSays count past' c st
-says_keep count past past' c a r b n (Routed site choice) h = record { route = h.route; is = r ∙ h.is; above = still_above count past past' c a h.route.min h.above; long = h.long }
+says_keep count past past' c a r b n (Routed site choice) h = record {
+  route = h.route;
+  is = r ∙ h.is;
+  above =
+      still_above count past past' c a h.route.min h.above;
+  long = h.long;
+}
 says_keep count past past' c a r b n (Running site) h = record { begin = h.begin; is = b ∙ h.is; above = still_above count past past' c a h.begin h.above }
 says_keep count past past' c a r b n (Committed site seq) h = record {
   entry = h.entry;
@@ -127,7 +135,8 @@ answered_other c session number (said.Read site) past h = none (session == c) _ 
     none false x h = refl
 answered_other c session number other past h = refl
 
-pub entry_more : (es : List Entry) (d : Entry) → Numbered (d ∷ es) → (i k : ℕ) (e : Entry) → find (λ x. (x.origin == i) && (x.seq == k)) es ≡ Some e → find (λ x. (x.origin == i) && (x.seq == k)) (d ∷ es) ≡ Some e
+pub entry_more : (es : List Entry) (d : Entry) → Numbered (d ∷ es) → (i k : ℕ) (e : Entry) → find (λ x. (x.origin == i) && (x.seq == k)) es ≡ Some e
+    → find (λ x. (x.origin == i) && (x.seq == k)) (d ∷ es) ≡ Some e
 entry_more es d m i k e f =
     let g = found_entry es i k e m.1 f in
     let no' : ((d.origin == i) && (d.seq == k)) ≡ false = false_from_ne_true _ (λ t.
@@ -139,7 +148,8 @@ entry_more es d m i k e f =
     absurd (omega (arith, z, c, w, y, q))) in
     cond-false ((d.origin == i) && (d.seq == k)) (Some d) (find (λ x. (x.origin == i) && (x.seq == k)) es) no' ∙ f
 
-kept_stay : (past : List Step) (site : ℕ) (o : Option Pending) → Numbered (filter_map entry_of (option_to_list (option_map (step_of site) o) ++ acts past)) → (i k : ℕ) (e : Entry) → entry_at i k past ≡ Some e
+kept_stay : (past : List Step) (site : ℕ) (o : Option Pending) → Numbered (filter_map entry_of (option_to_list (option_map (step_of site) o) ++ acts past))
+    → (i k : ℕ) (e : Entry) → entry_at i k past ≡ Some e
     → find (λ x. (x.origin == i) && (x.seq == k)) (filter_map entry_of (option_to_list (option_map (step_of site) o) ++ acts past)) ≡ Some e
 kept_stay past site None m i k e f = f
 kept_stay past site (Some (pending.Release part epoch to v)) m i k e f = f
@@ -162,10 +172,13 @@ module _ (layout : Layout) (past : List Step) (n : SoundPast layout past) (seat 
             let y = ap (λ (v : List ℕ). at v j) legal.least in omega arith);
         long = legal.long;
       })
-      (λ e. says_keep layout.sites past (Route txn want min site choice ∷ past) c refl (passed (txn.session == c) _ _ e) refl (λ i k x f. f) (state c past) (s c))
+      (λ e. says_keep layout.sites past (Route txn want min site choice ∷ past) c refl (passed (txn.session == c) _ _ e) refl (λ i k x f. f) (state c past)
+      (s c))
   says_step (Reply session number o) h c =
       state_or (StateSays layout.sites (Reply session number o ∷ past) c) (session == c) Unrouted (state c past) (λ e. tt)
-      (λ e. says_keep layout.sites past (Reply session number o ∷ past) c (ap (λ (x : Option (List ℕ)). cons_option x (answered c past)) (answered_other c session number o past e)) refl refl (λ i k x f. f) (state c past) (s c))
+      (λ e. says_keep layout.sites past (Reply session number o ∷ past) c
+      (ap (λ (x : Option (List ℕ)). cons_option x (answered c past)) (answered_other c session number o past e)) refl refl (λ i k x f. f) (state c past)
+      (s c))
   says_step (Begin site txn begin) h c =
       let legal = legal_begin layout past site txn begin h in
       state_or (StateSays layout.sites (Begin site txn begin ∷ past) c) (txn.session == c) (Running site) (state c past)
@@ -196,33 +209,42 @@ module _ (layout : Layout) (past : List Step) (n : SoundPast layout past) (seat 
         is = cond-true ((d.origin == d.origin) && (d.seq == d.seq)) _ _ (and_from _ _ (eq-eqb d.origin d.origin refl) (eq-eqb d.seq d.seq refl));
         above = (
             let z = running_says d.origin d.txn c legal.runs (eqb-true d.txn.session c e) in
-            let begun : begin_vector d.txn past ≡ Some z.begin = last d.origin d.txn legal.runs ∙ ap (λ (k : ℕ). last_begin k past) (eqb-true d.txn.session c e) ∙ z.is in
+            let begun : begin_vector d.txn past ≡ Some z.begin = last d.origin d.txn legal.runs ∙ ap (λ (k : ℕ). last_begin k past) (eqb-true d.txn.session c e)
+            ∙ z.is in
             let w : d.begin ≡ z.begin = legal.began ∙ ap (λ (o : Option (List ℕ)). unwrap_or o []) begun in
             subst (λ (b : List ℕ). AtMost (session_vector layout.sites past c) b) (sym w) z.above
             );
       })
-      (λ e. says_keep layout.sites past (Commit d ∷ past) c refl refl refl (entry_more (entries past) d (sound_step layout past (Commit d) n h).numbered) (state c past) (s c))
+      (λ e. says_keep layout.sites past (Commit d ∷ past) c refl refl refl (entry_more (entries past) d (sound_step layout past (Commit d) n h).numbered)
+      (state c past) (s c))
   says_step (End site txn ops reads) h c =
       state_or (StateSays layout.sites (End site txn ops reads ∷ past) c) (txn.session == c) (Ended site) (state c past)
-      (λ e. (let z = running_says site txn c (legal_end layout past site txn ops reads h).runs (eqb-true txn.session c e) in record { begin = z.begin; is = z.is; above = z.above }))
+      (λ e. (let z = running_says site txn c (legal_end layout past site txn ops reads h).runs (eqb-true txn.session c e) in
+      record { begin = z.begin; is = z.is; above = z.above }))
       (λ e. says_keep layout.sites past (End site txn ops reads ∷ past) c refl refl refl (λ i k x f. f) (state c past) (s c))
   says_step (Fail site txn cause) h c =
       state_or (StateSays layout.sites (Fail site txn cause ∷ past) c) (txn.session == c) (Failed cause) (state c past) (λ e. tt)
       (λ e. says_keep layout.sites past (Fail site txn cause ∷ past) c refl refl refl (λ i k x f. f) (state c past) (s c))
   says_step (Doubt site (pending.Commit d)) h c =
       state_or (StateSays layout.sites (Doubt site (pending.Commit d) ∷ past) c) (d.txn.session == c) (Doubted site) (dropped_at site (state c past)) (λ e. tt)
-      (λ e. says_dropped layout.sites (Doubt site (pending.Commit d) ∷ past) c site (state c past) (says_keep layout.sites past (Doubt site (pending.Commit d) ∷ past) c refl refl refl (λ i k x f. f) (state c past) (s c)))
+      (λ e. says_dropped layout.sites (Doubt site (pending.Commit d) ∷ past) c site (state c past)
+      (says_keep layout.sites past (Doubt site (pending.Commit d) ∷ past) c refl refl refl (λ i k x f. f) (state c past) (s c)))
   says_step (Doubt site (pending.Release part epoch to vector)) h c =
-      says_dropped layout.sites (Doubt site (pending.Release part epoch to vector) ∷ past) c site (state c past) (says_keep layout.sites past (Doubt site (pending.Release part epoch to vector) ∷ past) c refl refl refl (λ i k x f. f) (state c past) (s c))
+      says_dropped layout.sites (Doubt site (pending.Release part epoch to vector) ∷ past) c site (state c past)
+      (says_keep layout.sites past (Doubt site (pending.Release part epoch to vector) ∷ past) c refl refl refl (λ i k x f. f) (state c past) (s c))
   says_step (Doubt site (pending.Grant part epoch vector)) h c =
-      says_dropped layout.sites (Doubt site (pending.Grant part epoch vector) ∷ past) c site (state c past) (says_keep layout.sites past (Doubt site (pending.Grant part epoch vector) ∷ past) c refl refl refl (λ i k x f. f) (state c past) (s c))
+      says_dropped layout.sites (Doubt site (pending.Grant part epoch vector) ∷ past) c site (state c past)
+      (says_keep layout.sites past (Doubt site (pending.Grant part epoch vector) ∷ past) c refl refl refl (λ i k x f. f) (state c past) (s c))
   says_step (Restart site vector Clean) h c =
-      says_dropped layout.sites (Restart site vector Clean ∷ past) c site (state c past) (says_keep layout.sites past (Restart site vector Clean ∷ past) c refl refl refl (λ i k x f. f) (state c past) (s c))
+      says_dropped layout.sites (Restart site vector Clean ∷ past) c site (state c past)
+      (says_keep layout.sites past (Restart site vector Clean ∷ past) c refl refl refl (λ i k x f. f) (state c past) (s c))
   says_step (Restart site vector Lost) h c =
-      says_dropped layout.sites (Restart site vector Lost ∷ past) c site (state c past) (says_keep layout.sites past (Restart site vector Lost ∷ past) c refl refl refl (λ i k x f. f) (state c past) (s c))
+      says_dropped layout.sites (Restart site vector Lost ∷ past) c site (state c past)
+      (says_keep layout.sites past (Restart site vector Lost ∷ past) c refl refl refl (λ i k x f. f) (state c past) (s c))
   says_step (Restart site vector Kept) h c =
       says_dropped layout.sites (Restart site vector Kept ∷ past) c site (state c past)
-      (says_keep layout.sites past (Restart site vector Kept ∷ past) c refl refl refl (kept_stay past site (pending_at site past) (sound_step layout past (Restart site vector Kept) n h).numbered) (state c past) (s c))
+      (says_keep layout.sites past (Restart site vector Kept ∷ past) c refl refl refl
+      (kept_stay past site (pending_at site past) (sound_step layout past (Restart site vector Kept) n h).numbered) (state c past) (s c))
   says_step other h c = says_keep layout.sites past (other ∷ past) c refl refl refl (λ i k x f. f) (state c past) (s c)
 
 last_step : (layout : Layout) (past : List Step) (st : Step) → Seated past → Allowed layout past st → LastBegins past → LastBegins (st ∷ past)
@@ -251,7 +273,8 @@ last_begins layout (st ∷ past) h = last_step layout past st (seated layout pas
 
 pub sessions_past : (layout : Layout) (past : List Step) → LegalPast layout past → SessionsPast layout past
 sessions_past layout [] h = λ c. tt
-sessions_past layout (st ∷ past) h = says_step layout past (sound_past layout past h.0) (seated layout past h.0) (last_begins layout past h.0) (sessions_past layout past h.0) st h.1
+sessions_past layout (st ∷ past) h = says_step layout past (sound_past layout past h.0) (seated layout past h.0) (last_begins layout past h.0)
+    (sessions_past layout past h.0) st h.1
 
 answered_committed : (count : ℕ) (past : List Step) (c number site seq : ℕ) (st : AttemptState) → StateSays count past c st → is_committed st site seq ≡ true
     → AnswersUp count past (Reply c number (said.Committed site seq))
@@ -263,13 +286,15 @@ answered_committed count past c number site seq (Committed i k) h m =
     )
 answered_committed count past c number site seq other h m = absurd (false≢true m)
 
-answered_read : (count : ℕ) (past : List Step) (c number site : ℕ) (st : AttemptState) → StateSays count past c st → is_ended st site ≡ true → AnswersUp count past (Reply c number (said.Read site))
+answered_read : (count : ℕ) (past : List Step) (c number site : ℕ) (st : AttemptState) → StateSays count past c st → is_ended st site ≡ true
+    → AnswersUp count past (Reply c number (said.Read site))
 answered_read count past c number site (Ended i) h m = (h.begin, h.is, session_within count c h.begin past h.above)
 answered_read count past c number site other h m = absurd (false≢true m)
 
 answer_up : (layout : Layout) (past : List Step) (st : Step) → SessionsPast layout past → Allowed layout past st → AnswersUp layout.sites past st
 answer_up layout past (Reply session number (said.Committed site seq)) s h =
-    answered_committed layout.sites past session number site seq (state session past) (s session) (legal_reply layout past session number (said.Committed site seq) h).says
+    answered_committed layout.sites past session number site seq (state session past) (s session)
+    (legal_reply layout past session number (said.Committed site seq) h).says
 answer_up layout past (Reply session number (said.Read site)) s h =
     answered_read layout.sites past session number site (state session past) (s session) (legal_reply layout past session number (said.Read site) h).says
 answer_up layout past other s h = tt

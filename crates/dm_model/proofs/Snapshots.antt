@@ -1,5 +1,6 @@
 -- In every legal past what a transaction read stays what the whole past gives.
-use Rattle.std.proofs.Common.{ℕ, ℤ, ◌≤◌, ◌≡◌, Bool, true, false, ◌==◌, if◌then◌else◌, List, [], ◌∷◌, ◌++◌, Option, Some, None, sym, ap, ◌∙◌, arith, inl, inr, unwrap_or}
+use Rattle.std.proofs.Common.{ℕ, ℤ, ◌≤◌, ◌≡◌, Bool, true, false, ◌==◌, if◌then◌else◌, List, [], ◌∷◌, ◌++◌, Option, Some, None, sym, ap, ◌∙◌, arith, inl, inr}
+use Rattle.std.proofs.Common.{unwrap_or}
 use Rattle.std.proofs.lemmas.Bool.{false≢true, lt-leb}
 use Rattle.std.specs.List.{AllByRecursion as Each}
 use Rattle.std.specs.Option.{option_or}
@@ -39,7 +40,8 @@ abbrev pub WithinCounts : List Entry → List ℕ → Type 0
 WithinCounts es v = (j : ℕ) → at v j ≤ count_at j es
 
 -- an entry that comes is inside no vector that is within the counts
-pub value_more : (layout : Layout) (d : Entry) (es : List Entry) (v : List ℕ) → Numbered (d ∷ es) → WithinCounts es v → value_in layout (d ∷ es) v ≡ value_in layout es v
+pub value_more : (layout : Layout) (d : Entry) (es : List Entry) (v : List ℕ) → Numbered (d ∷ es) → WithinCounts es v
+    → value_in layout (d ∷ es) v ≡ value_in layout es v
 value_more layout d es v n c =
     let out : is_inside v d ≡ false = lt-leb d.seq (at v d.origin) (let a = c d.origin in let b = n.0.seq in omega (arith, a, b)) in
     λ i key. unwrap_or (option_or (if out i then written d.writes key else None) (newest es key v)) (opening_value layout key)
@@ -106,12 +108,14 @@ abbrev pub SnapPast : Layout → List Step → Type 0
 SnapPast layout past = Snap layout (entries past) past (λ i. is_down i past) (λ i. pending_at i past)
 
 -- a step that adds no entry and is no End
-same_entries : (layout : Layout) (es : List Entry) (past past' : List Step) (down down' : ℕ → Bool) (doubt doubt' : ℕ → Option Pending) → Snap layout es past down doubt → EndsFit layout es past'
+same_entries : (layout : Layout) (es : List Entry) (past past' : List Step) (down down' : ℕ → Bool) (doubt doubt' : ℕ → Option Pending)
+    → Snap layout es past down doubt → EndsFit layout es past'
     → ((i : ℕ) → down' i ≡ true → DoubtFits layout es (doubt' i)) → Snap layout es past' down' doubt'
 same_entries layout es past past' down down' doubt doubt' s e h = record { commits = s.commits; ends = e; held = h }
 
 -- a step that adds an entry which fits
-one_entry : (layout : Layout) (es : List Entry) (past past' : List Step) (down down' : ℕ → Bool) (doubt : ℕ → Option Pending) (e : Entry) → Snap layout es past down doubt → Numbered (e ∷ es) → Fits layout es e
+one_entry : (layout : Layout) (es : List Entry) (past past' : List Step) (down down' : ℕ → Bool) (doubt : ℕ → Option Pending) (e : Entry)
+    → Snap layout es past down doubt → Numbered (e ∷ es) → Fits layout es e
     → (EndsFit layout (e ∷ es) past → EndsFit layout (e ∷ es) past') → ((i : ℕ) → down' i ≡ true → down i ≡ true) → Snap layout (e ∷ es) past' down' doubt
 one_entry layout es past past' down down' doubt e s n f g d = record {
   commits = (fits_more layout e es e n f, each_map (Fits layout es) (Fits layout (e ∷ es)) (λ x q. fits_more layout e es x n q) es s.commits);
@@ -131,30 +135,42 @@ module _ (layout : Layout) (past : List Step) (n : SoundPast layout past) (s : S
   rise site k o r = elim (ran (site == k) false o r) [ inl q ↦ absurd (false≢true q.now) | inr q ↦ q.before ]
 
   snap_doubt : (site : ℕ) (p : Pending) → DoubtFits layout (entries past) (Some p) → SnapPast layout (Doubt site p ∷ past)
-  snap_doubt site p f = same_entries layout (entries past) past (Doubt site p ∷ past) _ (λ i. is_down i (Doubt site p ∷ past)) _ (λ i. pending_at i (Doubt site p ∷ past)) s s.ends
+  snap_doubt site p f = same_entries layout (entries past) past (Doubt site p ∷ past) _ (λ i. is_down i (Doubt site p ∷ past)) _
+      (λ i. pending_at i (Doubt site p ∷ past)) s s.ends
       (λ i h. by_site i (site == i) h)
     where
-      by_site : (i : ℕ) (b : Bool) → unwrap_or (option_or (if b then Some true else None) (latest (down_after i) past)) false ≡ true → DoubtFits layout (entries past) (option_or (if b then Some p else None) (pending_at i past))
+      by_site : (i : ℕ) (b : Bool) → unwrap_or (option_or (if b then Some true else None) (latest (down_after i) past)) false ≡ true
+          → DoubtFits layout (entries past) (option_or (if b then Some p else None) (pending_at i past))
       by_site i true h = f
       by_site i false h = s.held i h
 
-  snap_kept : (site : ℕ) (vector : List ℕ) (o : Option Pending) → DoubtFits layout (entries past) o → Numbered (filter_map entry_of (option_to_list (option_map (step_of site) o) ++ acts past))
-      → Snap layout (filter_map entry_of (option_to_list (option_map (step_of site) o) ++ acts past)) (Restart site vector Kept ∷ past) (λ i. is_down i (Restart site vector Kept ∷ past)) (λ i. pending_at i past)
-  snap_kept site vector None f m = same_entries layout (entries past) past (Restart site vector Kept ∷ past) _ (λ i. is_down i (Restart site vector Kept ∷ past)) _ (λ i. pending_at i past) s s.ends (λ i h. s.held i (rise site i _ h))
-  snap_kept site vector (Some (pending.Release part epoch to v)) f m = same_entries layout (entries past) past (Restart site vector Kept ∷ past) _ (λ i. is_down i (Restart site vector Kept ∷ past)) _ (λ i. pending_at i past) s s.ends (λ i h. s.held i (rise site i _ h))
-  snap_kept site vector (Some (pending.Grant part epoch v)) f m = same_entries layout (entries past) past (Restart site vector Kept ∷ past) _ (λ i. is_down i (Restart site vector Kept ∷ past)) _ (λ i. pending_at i past) s s.ends (λ i h. s.held i (rise site i _ h))
-  snap_kept site vector (Some (pending.Commit e)) f m = one_entry layout (entries past) past (Restart site vector Kept ∷ past) _ (λ i. is_down i (Restart site vector Kept ∷ past)) _ e s m f (λ x. x) (λ i h. rise site i _ h)
+  snap_kept : (site : ℕ) (vector : List ℕ) (o : Option Pending) → DoubtFits layout (entries past) o
+      → Numbered (filter_map entry_of (option_to_list (option_map (step_of site) o) ++ acts past))
+      → Snap layout (filter_map entry_of (option_to_list (option_map (step_of site) o) ++ acts past)) (Restart site vector Kept ∷ past)
+      (λ i. is_down i (Restart site vector Kept ∷ past)) (λ i. pending_at i past)
+  snap_kept site vector None f m = same_entries layout (entries past) past (Restart site vector Kept ∷ past) _ (λ i.
+      is_down i (Restart site vector Kept ∷ past)) _ (λ i. pending_at i past) s s.ends (λ i h. s.held i (rise site i _ h))
+  snap_kept site vector (Some (pending.Release part epoch to v)) f m =
+      same_entries layout (entries past) past (Restart site vector Kept ∷ past) _ (λ i. is_down i (Restart site vector Kept ∷ past)) _ (λ i. pending_at i past)
+      s s.ends (λ i h. s.held i (rise site i _ h))
+  snap_kept site vector (Some (pending.Grant part epoch v)) f m = same_entries layout (entries past) past (Restart site vector Kept ∷ past) _ (λ i.
+      is_down i (Restart site vector Kept ∷ past)) _ (λ i. pending_at i past) s s.ends (λ i h. s.held i (rise site i _ h))
+  snap_kept site vector (Some (pending.Commit e)) f m = one_entry layout (entries past) past (Restart site vector Kept ∷ past) _ (λ i.
+      is_down i (Restart site vector Kept ∷ past)) _ e s m f (λ x. x) (λ i h. rise site i _ h)
 
-pub snap_step : (layout : Layout) (past : List Step) (s : Step) → SoundPast layout past → Allowed layout past s → SnapPast layout past → SnapPast layout (s ∷ past)
+pub snap_step : (layout : Layout) (past : List Step) (s : Step) → SoundPast layout past → Allowed layout past s → SnapPast layout past
+    → SnapPast layout (s ∷ past)
 snap_step layout past (Commit e) n h s =
-    one_entry layout (entries past) past (Commit e ∷ past) _ (λ i. is_down i past) _ e s (sound_step layout past (Commit e) n h).numbered (commit_fits layout past n s e (legal_commit layout past e h)) (λ x. x) (λ i d. d)
+    one_entry layout (entries past) past (Commit e ∷ past) _ (λ i. is_down i past) _ e s (sound_step layout past (Commit e) n h).numbered
+    (commit_fits layout past n s e (legal_commit layout past e h)) (λ x. x) (λ i d. d)
 snap_step layout past (End site txn ops reads) n h s =
     let legal = legal_end layout past site txn ops reads h in
     let r = n.running site txn legal.runs in
     same_entries layout _ past _ _ _ _ _ s (
       record {
         read = legal.read;
-        within = λ j. (let a = r.within.below j in let b = (n.closed site).within j in let e = ap (λ (o : Option (List ℕ)). at (unwrap_or o []) j) r.is in omega arith);
+        within = λ j. (let a = r.within.below j in let b = (n.closed site).within j in let e = ap (λ (o : Option (List ℕ)). at (unwrap_or o []) j) r.is in
+            omega arith);
       },
       s.ends,
     ) s.held
@@ -165,7 +181,8 @@ snap_step layout past (Doubt site (pending.Grant part epoch vector)) n h s = sna
 snap_step layout past (Restart site vector Clean) n h s = same_entries layout _ past _ _ _ _ _ s s.ends (λ i d. s.held i (rise layout past n s site i _ d))
 snap_step layout past (Restart site vector Lost) n h s = same_entries layout _ past _ _ _ _ _ s s.ends (λ i d. s.held i (rise layout past n s site i _ d))
 snap_step layout past (Restart site vector Kept) n h s =
-    snap_kept layout past n s site vector (pending_at site past) (s.held site (legal_restart layout past site vector Kept h).fits) (sound_step layout past (Restart site vector Kept) n h).numbered
+    snap_kept layout past n s site vector (pending_at site past) (s.held site (legal_restart layout past site vector Kept h).fits)
+    (sound_step layout past (Restart site vector Kept) n h).numbered
 snap_step layout past other n h s = same_entries layout _ past _ _ _ _ _ s s.ends s.held
 
 pub snap_past : (layout : Layout) (past : List Step) → LegalPast layout past → SnapPast layout past

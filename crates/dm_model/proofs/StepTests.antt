@@ -33,6 +33,7 @@ passed true x o h = absurd (false≢true (sym h))
 passed false x o h = refl
 
 -- what holds of a session's state after a step that changes it where the test passes
-pub state_or : (P : AttemptState → Type 0) (b : Bool) (new old : AttemptState) → (b ≡ true → P new) → (b ≡ false → P old) → P (unwrap_or (if b then Some new else None) old)
+pub state_or : (P : AttemptState → Type 0) (b : Bool) (new old : AttemptState) → (b ≡ true → P new) → (b ≡ false → P old)
+    → P (unwrap_or (if b then Some new else None) old)
 state_or P true new old f g = f refl
 state_or P false new old f g = g refl

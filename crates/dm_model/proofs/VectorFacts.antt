@@ -1,5 +1,6 @@
 -- The components of vectors, and of their maxima.
-use Rattle.std.proofs.Common.{ℕ, zero, suc, ◌-◌, ◌<◌, ◌≤◌, ◌≡◌, ◌≢◌, true, false, nat_lt, List, ◌∷◌, None, length, get_or, refl, arith, inl, inr, rules, map, set, length-set, get_or-set_same}
+use Rattle.std.proofs.Common.{ℕ, zero, suc, ◌-◌, ◌<◌, ◌≤◌, ◌≡◌, ◌≢◌, true, false, nat_lt, List, ◌∷◌, None, length, get_or, refl, arith, inl, inr, rules, map}
+use Rattle.std.proofs.Common.{set, length-set, get_or-set_same}
 use Rattle.std.proofs.Math.ListN.{get_or-eq_default}
 use Rattle.std.proofs.lemmas.Bool.{ltb-false, cases_lt}
 use Rattle.std.proofs.lemmas.Grind.{common_steps}
@@ -36,7 +37,7 @@ at_most count u v long h zero = omega arith
 at_most count u v long h (suc k) = elim (cases_lt k (length u)) [
   | inl l ↦
       (let b = each_range (λ site. nat_lt (at v site) (at u site) ≡ false) 1 (length u)
-          (find_none (λ site. nat_lt (at v site) (at u site)) (sites_to (length u)) h) (suc k) (omega arith) (omega arith) in
+      (find_none (λ site. nat_lt (at v site) (at u site)) (sites_to (length u)) h) (suc k) (omega arith) (omega arith) in
       ltb-false (at v (suc k)) (at u (suc k)) b)
   | inr m ↦ (let e = at_past u (suc k) (omega arith) in omega arith)
 ]
@@ -55,7 +56,8 @@ at_raised_other v i n (suc k) l m = get_or-set_other' v (i - 1) k n (λ p. m (om
 at_by_mono : (count : ℕ) (f g : ℕ → ℕ) → ((j : ℕ) → f j ≤ g j) → (j : ℕ) → at (vector_by count f) j ≤ at (vector_by count g) j
 at_by_mono count f g le zero = omega arith
 at_by_mono count f g le (suc k) = elim (cases_lt k count) [
-  | inl l ↦ (let a = at_by count f (suc k) (omega arith) (omega arith) in let b = at_by count g (suc k) (omega arith) (omega arith) in let c = le (suc k) in omega arith)
+  | inl l ↦ (let a = at_by count f (suc k) (omega arith) (omega arith) in let b = at_by count g (suc k) (omega arith) (omega arith) in let c = le (suc k) in
+      omega arith)
   | inr m ↦ (let a = at_past (vector_by count f) (suc k) (let x = long_by count f in omega arith) in omega arith)
 ]
 
@@ -81,8 +83,10 @@ join_has count x vs l (suc k) = elim (cases_lt k count) [
 pub join_least : (count : ℕ) (x : List ℕ) (vs : List (List ℕ)) (b j : ℕ) → at x j ≤ b → at (join_all count vs) j ≤ b → at (join_all count (x ∷ vs)) j ≤ b
 join_least count x vs b zero l m = omega arith
 join_least count x vs b (suc k) l m = elim (cases_lt k count) [
-  | inl c ↦ (let a = at_by count (λ site. greatest (map (λ v. at v site) (x ∷ vs))) (suc k) (omega arith) (omega arith) in let d = at_by count (λ site. greatest (map (λ v. at v site) vs)) (suc k) (omega arith) (omega arith) in omega arith)
-  | inr c ↦ (let a = at_past (join_all count (x ∷ vs)) (suc k) (let y = long_by count (λ site. greatest (map (λ v. at v site) (x ∷ vs))) in omega arith) in omega arith)
+  | inl c ↦ (let a = at_by count (λ site. greatest (map (λ v. at v site) (x ∷ vs))) (suc k) (omega arith) (omega arith) in let d =
+      at_by count (λ site. greatest (map (λ v. at v site) vs)) (suc k) (omega arith) (omega arith) in omega arith)
+  | inr c ↦ (let a = at_past (join_all count (x ∷ vs)) (suc k) (let y = long_by count (λ site. greatest (map (λ v. at v site) (x ∷ vs))) in omega arith) in
+      omega arith)
 ]
 
 pub long_raised : (v : List ℕ) (i n : ℕ) → length (raised v i n) ≡ length v

@@ -1,7 +1,8 @@
 -- How good a site is for a transaction. The scores are made of these: the number of sites and of partitions, the sets of
 -- partitions of the transactions before, the home of each partition, the vector of each site, and the wanted partitions.
 use Rattle.std.specs.List.{list_any, range_with_len}
-use Rattle.std.specs.Prelude.{ℕ, ◌-◌, ◌*◌, ℤ, pos, ◌+ℤ◌, ◌-ℤ◌, ◌*ℤ◌, nat_abs, ◌==◌, int_lt, ◌&&◌, not, if◌then◌else◌, List, [], ◌∷◌, filter, count_by, map, sum_by}
+use Rattle.std.specs.Prelude.{ℕ, ◌-◌, ◌*◌, ℤ, pos, ◌+ℤ◌, ◌-ℤ◌, ◌*ℤ◌, nat_abs, ◌==◌, int_lt, ◌&&◌, not, if◌then◌else◌, List, [], ◌∷◌, filter, count_by, map}
+use Rattle.std.specs.Prelude.{sum_by}
 use Rattle.dm_event.specs.Vectors.{at, sites_to, join_all}
 use Rattle.dm_event.specs.declared.schema.Weights.{Weights}
 use Rattle.dm_model.specs.Tests.{is_among}

@@ -26,10 +26,10 @@ use Rattle.dm_model.specs.Runs.{begin_of, runs, run_site, begin_vector}
 use Rattle.dm_model.specs.Sessions.{answered_by}
 use Rattle.dm_model.specs.Shape.{is_shaped, is_want, is_ascending}
 use Rattle.dm_model.specs.Words.{latest}
-use Rattle.dm_model.proofs.Judged.{shape_of}
 use Rattle.dm_model.proofs.LaggingRefresh.{Grounded, grounded_past}
 use Rattle.dm_model.proofs.VectorFacts.{long_raised}
-use Rattle.dm_model.proofs.LegalSteps.{shaped, legal_route, legal_begin}
+use Rattle.dm_model.proofs.Judged.{shape_of}
+use Rattle.dm_model.proofs.LegalSteps.{legal_route, legal_begin}
 use Rattle.dm_model.proofs.ListFacts.{found_each, found_holds}
 use Rattle.dm_model.proofs.NumbersSound.{sound_past}
 use Rattle.dm_plain.specs.Adding.{said_vector}
@@ -213,7 +213,7 @@ shaped_pending : (layout : Layout) (site : ℕ) (past : List Step) → LegalPast
     → is_shaped layout (Doubt site p) ≡ true
 shaped_pending layout site [] h p e = absurd (cc (e))
 shaped_pending layout site (Doubt i q ∷ past) h p e =
-    by_doubt layout site i q p (pending_at site past) (i == site) (eqb-true i site) (shaped layout past (Doubt i q) h.1)
+    by_doubt layout site i q p (pending_at site past) (i == site) (eqb-true i site) (shape_of layout past (Doubt i q) h.1)
     (λ f. shaped_pending layout site past h.0 p f) e
 shaped_pending layout site (Route txn want min at choice ∷ past) h p e = shaped_pending layout site past h.0 p e
 shaped_pending layout site (Reply session number said ∷ past) h p e = shaped_pending layout site past h.0 p e

@@ -48,11 +48,14 @@ an_addition_adds_to_what_a_read_would_give = refl
 additions_take_away_too : (body (Add 3 (negsuc 4) ∷ []) tens).writes ≡ pair 3 25 ∷ []
 additions_take_away_too = refl
 
-additions_wrap_at_64_bits : (body (Add 0 (pos 1) ∷ Read 0 ∷ []) (λ key. pos 9223372036854775807)).reads ≡ record { key = 0; value = negsuc 9223372036854775807 } ∷ []
+additions_wrap_at_64_bits : (body (Add 0 (pos 1) ∷ Read 0 ∷ []) (λ key. pos 9223372036854775807)).reads ≡ record { key = 0; value = negsuc 9223372036854775807 }
+    ∷ []
 additions_wrap_at_64_bits = refl
 
-writes_ascend_with_the_last_value_of_each_key : (body (Write 15 (pos 1) ∷ Write 3 (pos 2) ∷ Write 15 (pos 4) ∷ Write 9 (pos 3) ∷ []) tens).writes ≡ pair 3 2 ∷ pair 9 3 ∷ pair 15 4 ∷ []
+writes_ascend_with_the_last_value_of_each_key : (body (Write 15 (pos 1) ∷ Write 3 (pos 2) ∷ Write 15 (pos 4) ∷ Write 9 (pos 3) ∷ []) tens).writes ≡ pair 3 2
+    ∷ pair 9 3 ∷ pair 15 4 ∷ []
 writes_ascend_with_the_last_value_of_each_key = refl
 
-the_first_undeclared_write_is_found : (first_undeclared (3 ∷ 5 ∷ []) (Read 7 ∷ Write 3 (pos 1) ∷ Add 8 (pos 1) ∷ Write 7 (pos 1) ∷ []) ≡ Some 8) × (first_undeclared (3 ∷ []) (Read 7 ∷ Write 3 (pos 1) ∷ []) ≡ None)
+the_first_undeclared_write_is_found : (first_undeclared (3 ∷ 5 ∷ []) (Read 7 ∷ Write 3 (pos 1) ∷ Add 8 (pos 1) ∷ Write 7 (pos 1) ∷ []) ≡ Some 8)
+    × (first_undeclared (3 ∷ []) (Read 7 ∷ Write 3 (pos 1) ∷ []) ≡ None)
 the_first_undeclared_write_is_found = (refl, refl)

@@ -23,7 +23,8 @@ all_keys_of_one_master = (refl, refl)
 equal_scores_give_the_least_site : choice_due two_sites [] 1 (3 ∷ 15 ∷ []) ≡ (1, Best)
 equal_scores_give_the_least_site = refl
 
-a_best_site_may_have_to_be_made_master_first : judge two_sites [] (Route (txn 1 1 1) (want.Txn (3 ∷ 15 ∷ [])) (0 ∷ 0 ∷ []) 1 Best ∷ Moved 1 (txn 1 1 1) ∷ []) ≡ None
+a_best_site_may_have_to_be_made_master_first : judge two_sites [] (Route (txn 1 1 1) (want.Txn (3 ∷ 15 ∷ [])) (0 ∷ 0 ∷ []) 1 Best ∷ Moved 1 (txn 1 1 1) ∷ []) ≡
+    None
 a_best_site_may_have_to_be_made_master_first = refl
 
 an_asked_partition_has_no_agreed_master : choice_due two_sites (reverse asking) 4 (3 ∷ []) ≡ (1, Best)
@@ -47,11 +48,14 @@ the_greatest_score_is_chosen = refl
 it_may_be_routed_so : judge uneven_sites [] (used ++ (Route (txn 3 1 1) (want.Txn (3 ∷ 15 ∷ [])) (0 ∷ 0 ∷ []) 2 Best ∷ [])) ≡ None
 it_may_be_routed_so = refl
 
-the_window_has_routes_with_declared_keys : window two_sites (reverse (route (txn 1 1 1) (3 ∷ 5 ∷ 15 ∷ []) (0 ∷ 0 ∷ []) 1 ∷ route (txn 2 1 1) [] (0 ∷ 0 ∷ []) 1 ∷ Route (txn 3 1 1) (want.Place 1) (0 ∷ 0 ∷ []) 1 Hand ∷ [])) ≡ (0 ∷ 1 ∷ []) ∷ []
+the_window_has_routes_with_declared_keys : window two_sites (reverse
+    (route (txn 1 1 1) (3 ∷ 5 ∷ 15 ∷ []) (0 ∷ 0 ∷ []) 1 ∷ route (txn 2 1 1) [] (0 ∷ 0 ∷ []) 1 ∷ Route (txn 3 1 1) (want.Place 1) (0 ∷ 0 ∷ []) 1 Hand ∷ [])) ≡
+    (0 ∷ 1 ∷ []) ∷ []
 the_window_has_routes_with_declared_keys = refl
 
 the_window_forgets_all_but_the_last_256 : (length (window two_sites (replicate 257 (route (txn 1 1 1) (3 ∷ []) (0 ∷ 0 ∷ []) 1))) ≡ 256)
-    × (take 2 (window two_sites (route (txn 2 1 1) (15 ∷ []) (0 ∷ 0 ∷ []) 2 ∷ replicate 256 (route (txn 1 1 1) (3 ∷ []) (0 ∷ 0 ∷ []) 1))) ≡ (1 ∷ []) ∷ (0 ∷ []) ∷ [])
+    × (take 2 (window two_sites (route (txn 2 1 1) (15 ∷ []) (0 ∷ 0 ∷ []) 2 ∷ replicate 256 (route (txn 1 1 1) (3 ∷ []) (0 ∷ 0 ∷ []) 1))) ≡ (1 ∷ []) ∷ (0 ∷ [])
+    ∷ [])
 the_window_forgets_all_but_the_last_256 = (refl, refl)
 
 the_window_counts_routes_and_not_steps : window two_sites (replicate 256 (Refresh 2 1) ++ (route (txn 1 1 1) (3 ∷ []) (0 ∷ 0 ∷ []) 1 ∷ [])) ≡ (0 ∷ []) ∷ []
@@ -78,7 +82,8 @@ a_move_may_unbalance = (refl, refl, refl)
 abbrev pub vectors : ℕ → List ℕ
 vectors i = if i == 1 then 3 ∷ 0 ∷ [] else 1 ∷ 5 ∷ []
 
-a_lag_counts_what_is_missing_of_the_homes : (lag 2 halves vectors (0 ∷ []) 1 ≡ 0) × (lag 2 halves vectors (0 ∷ []) 2 ≡ 2) × (lag 2 halves vectors (0 ∷ 2 ∷ []) 1 ≡ 5)
+a_lag_counts_what_is_missing_of_the_homes : (lag 2 halves vectors (0 ∷ []) 1 ≡ 0) × (lag 2 halves vectors (0 ∷ []) 2 ≡ 2)
+    × (lag 2 halves vectors (0 ∷ 2 ∷ []) 1 ≡ 5)
 a_lag_counts_what_is_missing_of_the_homes = (refl, refl, refl)
 
 partitions_used_together_count_each_time : (together uses halves (0 ∷ []) 1 ≡ 1) × (together uses halves (0 ∷ []) 2 ≡ 3)
@@ -94,7 +99,8 @@ readers_go_round_from_their_own_site : (choice_due three_sites [] 2 [] ≡ (2, R
 readers_go_round_from_their_own_site = (refl, refl)
 
 -- after a refused item session 1 reads at the first site
-a_reader_is_routed_by_its_circle : judge two_sites [] (Reply 1 1 (said.Refused (cause.Undeclared 7)) ∷ Route (txn 1 2 1) (want.Txn []) (0 ∷ 0 ∷ []) 1 Reader ∷ Begin 1 (txn 1 2 1) (0 ∷ 0 ∷ []) ∷ End 1 (txn 1 2 1) (Read 3 ∷ []) (pair 3 0 ∷ []) ∷ Reply 1 2 (said.Read 1) ∷ []) ≡ None
+a_reader_is_routed_by_its_circle : judge two_sites [] (Reply 1 1 (said.Refused (cause.Undeclared 7)) ∷ Route (txn 1 2 1) (want.Txn []) (0 ∷ 0 ∷ []) 1 Reader ∷
+    Begin 1 (txn 1 2 1) (0 ∷ 0 ∷ []) ∷ End 1 (txn 1 2 1) (Read 3 ∷ []) (pair 3 0 ∷ []) ∷ Reply 1 2 (said.Read 1) ∷ []) ≡ None
 a_reader_is_routed_by_its_circle = refl
 
 -- session 2 reads at site 1 what its own site 2 lacks

@@ -31,7 +31,9 @@ another_may_be_routed_to_the_site = refl
 a_declared_key_is_held : refusal two_sites (reverse held) (Begin 1 (txn 2 1 1) (0 ∷ 0 ∷ [])) ≡ Some (why.Held (txn 1 1 1) 3)
 a_declared_key_is_held = refl
 
-the_earliest_begun_attempt_and_the_least_key_are_named : (refusal two_sites (Begin 1 (txn 2 1 1) (0 ∷ 0 ∷ []) ∷ route (txn 2 1 1) (3 ∷ []) (0 ∷ 0 ∷ []) 1 ∷ Begin 1 (txn 1 1 1) (0 ∷ 0 ∷ []) ∷ route (txn 1 1 1) (4 ∷ 5 ∷ []) (0 ∷ 0 ∷ []) 1 ∷ route (txn 3 1 1) (3 ∷ 4 ∷ 5 ∷ []) (0 ∷ 0 ∷ []) 1 ∷ [])
+the_earliest_begun_attempt_and_the_least_key_are_named : (refusal two_sites
+    (Begin 1 (txn 2 1 1) (0 ∷ 0 ∷ []) ∷ route (txn 2 1 1) (3 ∷ []) (0 ∷ 0 ∷ []) 1 ∷ Begin 1 (txn 1 1 1) (0 ∷ 0 ∷ [])
+    ∷ route (txn 1 1 1) (4 ∷ 5 ∷ []) (0 ∷ 0 ∷ []) 1 ∷ route (txn 3 1 1) (3 ∷ 4 ∷ 5 ∷ []) (0 ∷ 0 ∷ []) 1 ∷ [])
     (Begin 1 (txn 3 1 1) (0 ∷ 0 ∷ []))) ≡ Some (why.Held (txn 1 1 1) 4)
 the_earliest_begun_attempt_and_the_least_key_are_named = refl
 
@@ -63,7 +65,8 @@ released = asking ++ (Release 1 0 0 2 (1 ∷ 0 ∷ []) ∷ [])
 an_asked_partition_is_released : judge two_sites [] released ≡ None
 an_asked_partition_is_released = refl
 
-a_released_partition_has_no_master : (placing two_sites (reverse released) 0 ≡ Between 1 0 2 (1 ∷ 0 ∷ [])) × (masters two_sites (reverse released) 1 0 0 ≡ false) × (masters two_sites (reverse released) 2 0 1 ≡ false)
+a_released_partition_has_no_master : (placing two_sites (reverse released) 0 ≡ Between 1 0 2 (1 ∷ 0 ∷ []))
+    × (masters two_sites (reverse released) 1 0 0 ≡ false) × (masters two_sites (reverse released) 2 0 1 ≡ false)
 a_released_partition_has_no_master = (refl, refl, refl)
 
 a_released_partition_is_at_home_where_it_goes : home two_sites (reverse released) 0 ≡ 2
@@ -103,7 +106,8 @@ the_new_master_writes_on_what_it_took_over = refl
 abbrev pub sent_there : List Step
 sent_there = asking ++ (route (txn 2 1 1) (3 ∷ []) (0 ∷ 0 ∷ []) 1 ∷ [])
 
-the_least_partition_that_is_elsewhere_is_named : (refusal two_sites (route (txn 1 1 1) (3 ∷ 15 ∷ []) (0 ∷ 0 ∷ []) 1 ∷ []) (Begin 1 (txn 1 1 1) (0 ∷ 0 ∷ [])) ≡ Some (why.Elsewhere 1))
+the_least_partition_that_is_elsewhere_is_named : (refusal two_sites (route (txn 1 1 1) (3 ∷ 15 ∷ []) (0 ∷ 0 ∷ []) 1 ∷ []) (Begin 1 (txn 1 1 1) (0 ∷ 0 ∷ [])) ≡
+    Some (why.Elsewhere 1))
     × (refusal three_sites (route (txn 1 1 1) (3 ∷ 15 ∷ []) (0 ∷ 0 ∷ 0 ∷ []) 3 ∷ []) (Begin 3 (txn 1 1 1) (0 ∷ 0 ∷ 0 ∷ [])) ≡ Some (why.Elsewhere 0))
 the_least_partition_that_is_elsewhere_is_named = (refl, refl)
 

@@ -84,10 +84,12 @@ to_and_fro =
 a_partition_goes_to_and_fro : judge two_sites [] to_and_fro ≡ None
 a_partition_goes_to_and_fro = refl
 
-placed_is_due_once_it_is_settled : (said_due two_sites (reverse (take 4 to_and_fro)) 3 ≡ None) × (said_due two_sites (reverse (take 5 to_and_fro)) 3 ≡ Some (said.Placed 0 2 1))
+placed_is_due_once_it_is_settled : (said_due two_sites (reverse (take 4 to_and_fro)) 3 ≡ None)
+    × (said_due two_sites (reverse (take 5 to_and_fro)) 3 ≡ Some (said.Placed 0 2 1))
 placed_is_due_once_it_is_settled = (refl, refl)
 
-placed_is_due_under_the_last_epoch : (said_due two_sites (reverse to_and_fro) 3 ≡ Some (said.Placed 0 2 3)) × (said_due two_sites (reverse to_and_fro) 4 ≡ Some (said.Placed 0 1 2))
+placed_is_due_under_the_last_epoch : (said_due two_sites (reverse to_and_fro) 3 ≡ Some (said.Placed 0 2 3))
+    × (said_due two_sites (reverse to_and_fro) 4 ≡ Some (said.Placed 0 1 2))
 placed_is_due_under_the_last_epoch = (refl, refl)
 
 placed_is_allowed_under_each_epoch_since_the_route : (may_say two_sites (reverse to_and_fro) 3 (said.Placed 0 2 1) ≡ true)
@@ -100,7 +102,8 @@ a_partition_that_is_there_is_placed_at_once = refl
 
 -- ---- restarts
 
-restarted_is_due_after_a_restart_of_the_site : (said_due two_sites (Route (txn 5 1 1) want.Restart (0 ∷ 0 ∷ []) 2 Hand ∷ Restart 2 (0 ∷ 0 ∷ []) Clean ∷ []) 5 ≡ None)
+restarted_is_due_after_a_restart_of_the_site : (said_due two_sites (Route (txn 5 1 1) want.Restart (0 ∷ 0 ∷ []) 2 Hand ∷ Restart 2 (0 ∷ 0 ∷ []) Clean ∷ []) 5 ≡
+    None)
     × (said_due two_sites (Restart 1 (0 ∷ 0 ∷ []) Clean ∷ Route (txn 5 1 1) want.Restart (0 ∷ 0 ∷ []) 2 Hand ∷ []) 5 ≡ None)
     × (said_due two_sites (Restart 2 (0 ∷ 0 ∷ []) Clean ∷ Route (txn 5 1 1) want.Restart (0 ∷ 0 ∷ []) 2 Hand ∷ []) 5 ≡ Some (said.Restarted 2))
 restarted_is_due_after_a_restart_of_the_site = (refl, refl, refl)

@@ -88,7 +88,8 @@ out_of_range =
 numbers_have_their_ranges : says [] out_of_range ≡ unshaped out_of_range
 numbers_have_their_ranges = refl
 
-the_ends_of_the_ranges_are_in_them : says [] (route (txn 32 1 1) (0 ∷ 9 ∷ []) (0 ∷ 0 ∷ []) 1 ∷ route (txn 1 1 1) (10 ∷ 19 ∷ []) (0 ∷ 0 ∷ []) 2 ∷ []) ≡ None ∷ None ∷ []
+the_ends_of_the_ranges_are_in_them : says [] (route (txn 32 1 1) (0 ∷ 9 ∷ []) (0 ∷ 0 ∷ []) 1 ∷ route (txn 1 1 1) (10 ∷ 19 ∷ []) (0 ∷ 0 ∷ []) 2 ∷ []) ≡ None
+    ∷ None ∷ []
 the_ends_of_the_ranges_are_in_them = refl
 
 abbrev out_of_order : List Step
@@ -105,10 +106,12 @@ keys_ascend = refl
 abbrev wide : Layout
 wide = record two_sites { width = 20 }
 
-at_most_32_declared_keys : (refusal wide [] (route (txn 1 1 1) (range_with_len 0 33) (0 ∷ 0 ∷ []) 1) ≡ Some why.Shape) × (refusal wide [] (route (txn 1 1 1) (range_with_len 0 32) (0 ∷ 0 ∷ []) 1) ≡ None)
+at_most_32_declared_keys : (refusal wide [] (route (txn 1 1 1) (range_with_len 0 33) (0 ∷ 0 ∷ []) 1) ≡ Some why.Shape)
+    × (refusal wide [] (route (txn 1 1 1) (range_with_len 0 32) (0 ∷ 0 ∷ []) 1) ≡ None)
 at_most_32_declared_keys = (refl, refl)
 
-at_most_64_ops : says one_commit (End 1 (txn 1 1 1) (replicate 65 (Read 3)) [] ∷ End 1 (txn 1 1 1) (replicate 64 (Read 3)) [] ∷ []) ≡ Some why.Shape ∷ Some why.NotRunning ∷ []
+at_most_64_ops : says one_commit (End 1 (txn 1 1 1) (replicate 65 (Read 3)) [] ∷ End 1 (txn 1 1 1) (replicate 64 (Read 3)) [] ∷ []) ≡ Some why.Shape
+    ∷ Some why.NotRunning ∷ []
 at_most_64_ops = refl
 
 abbrev wrong_causes : List Step
@@ -124,12 +127,14 @@ wrong_causes =
 causes_fit_their_site : says [] wrong_causes ≡ unshaped wrong_causes
 causes_fit_their_site = refl
 
-a_commit_is_in_doubt_at_its_origin : says [] (Doubt 2 (pending.Commit (record { txn = txn 1 1 1; origin = 1; seq = 1; begin = 0 ∷ 0 ∷ []; ops = []; reads = []; writes = [] })) ∷ []) ≡ Some why.Shape ∷ []
+a_commit_is_in_doubt_at_its_origin : says [] (Doubt 2
+    (pending.Commit (record { txn = txn 1 1 1; origin = 1; seq = 1; begin = 0 ∷ 0 ∷ []; ops = []; reads = []; writes = [] })) ∷ []) ≡ Some why.Shape ∷ []
 a_commit_is_in_doubt_at_its_origin = refl
 
 -- ---- Routes and Replies
 
-routes_have_the_next_number_and_attempt : says [] (route (txn 1 2 1) [] (0 ∷ 0 ∷ []) 1 ∷ route (txn 1 1 2) [] (0 ∷ 0 ∷ []) 1 ∷ []) ≡ Some (why.NotDue 1) ∷ Some (why.NotDue 1) ∷ []
+routes_have_the_next_number_and_attempt : says [] (route (txn 1 2 1) [] (0 ∷ 0 ∷ []) 1 ∷ route (txn 1 1 2) [] (0 ∷ 0 ∷ []) 1 ∷ []) ≡ Some (why.NotDue 1)
+    ∷ Some (why.NotDue 1) ∷ []
 routes_have_the_next_number_and_attempt = refl
 
 an_attempt_is_finished_before_the_next : (says (take 1 one_commit) (route (txn 1 1 2) [] (0 ∷ 0 ∷ []) 1 ∷ []) ≡ Some (why.Unfinished (txn 1 1 1)) ∷ [])
@@ -151,21 +156,26 @@ a_choice_is_the_one_due_or_by_hand : says [] (Route (txn 1 1 1) (want.Txn (3 ∷
     ∷ []) ≡ Some (why.WrongChoice 1 Master) ∷ Some (why.WrongChoice 1 Master) ∷ Some (why.WrongChoice 2 Hand) ∷ None ∷ []
 a_choice_is_the_one_due_or_by_hand = refl
 
-replies_have_the_next_number_and_an_allowed_outcome : says (take 3 one_commit) (Reply 1 2 (said.Committed 1 1) ∷ Reply 1 1 (said.Committed 1 2) ∷ Reply 1 1 (said.Read 1) ∷ []) ≡ Some (why.NotDue 1) ∷ Some why.WrongSaid ∷ Some why.WrongSaid ∷ []
+replies_have_the_next_number_and_an_allowed_outcome : says (take 3 one_commit)
+    (Reply 1 2 (said.Committed 1 1) ∷ Reply 1 1 (said.Committed 1 2) ∷ Reply 1 1 (said.Read 1) ∷ []) ≡ Some (why.NotDue 1) ∷ Some why.WrongSaid
+    ∷ Some why.WrongSaid ∷ []
 replies_have_the_next_number_and_an_allowed_outcome = refl
 
 -- ---- Begins and what ends them
 
-an_attempt_begins_where_it_is_routed : says (take 1 one_commit) (Begin 1 (txn 1 1 2) (0 ∷ 0 ∷ []) ∷ Begin 2 (txn 1 1 1) (0 ∷ 0 ∷ []) ∷ Begin 1 (txn 1 1 1) (1 ∷ 0 ∷ []) ∷ []) ≡ Some why.NotRouted ∷ Some (why.WrongSite 1) ∷ Some (why.WrongVector (0 ∷ 0 ∷ [])) ∷ []
+an_attempt_begins_where_it_is_routed : says (take 1 one_commit) (Begin 1 (txn 1 1 2) (0 ∷ 0 ∷ []) ∷ Begin 2 (txn 1 1 1) (0 ∷ 0 ∷ []) ∷ Begin 1 (txn 1 1 1)
+    (1 ∷ 0 ∷ []) ∷ []) ≡ Some why.NotRouted ∷ Some (why.WrongSite 1) ∷ Some (why.WrongVector (0 ∷ 0 ∷ [])) ∷ []
 an_attempt_begins_where_it_is_routed = refl
 
 only_a_transaction_begins : says asking (Begin 2 (txn 3 1 1) (0 ∷ 0 ∷ []) ∷ Moved 2 (txn 3 1 1) ∷ []) ≡ Some why.NotRouted ∷ Some why.NotRouted ∷ []
 only_a_transaction_begins = refl
 
-nothing_begins_at_a_site_that_is_down : says (in_doubt ++ (route (txn 3 1 1) [] (0 ∷ 0 ∷ []) 1 ∷ [])) (Begin 1 (txn 3 1 1) (0 ∷ 0 ∷ []) ∷ Moved 1 (txn 3 1 1) ∷ []) ≡ Some (why.Down 1) ∷ Some (why.Down 1) ∷ []
+nothing_begins_at_a_site_that_is_down : says (in_doubt ++ (route (txn 3 1 1) [] (0 ∷ 0 ∷ []) 1 ∷ []))
+    (Begin 1 (txn 3 1 1) (0 ∷ 0 ∷ []) ∷ Moved 1 (txn 3 1 1) ∷ []) ≡ Some (why.Down 1) ∷ Some (why.Down 1) ∷ []
 nothing_begins_at_a_site_that_is_down = refl
 
-nothing_begins_below_its_minimum : says (one_commit ++ (route (txn 1 2 1) [] (1 ∷ 0 ∷ []) 2 ∷ [])) (Begin 2 (txn 1 2 1) (0 ∷ 0 ∷ []) ∷ []) ≡ Some (why.Behind 1) ∷ []
+nothing_begins_below_its_minimum : says (one_commit ++ (route (txn 1 2 1) [] (1 ∷ 0 ∷ []) 2 ∷ [])) (Begin 2 (txn 1 2 1) (0 ∷ 0 ∷ []) ∷ []) ≡ Some (why.Behind 1)
+    ∷ []
 nothing_begins_below_its_minimum = refl
 
 nothing_is_sent_away_where_it_may_begin : says (take 1 one_commit) (Moved 1 (txn 1 1 1) ∷ []) ≡ Some why.AllHere ∷ []
@@ -179,7 +189,8 @@ a_commit_is_of_its_attempt : says (take 2 one_commit) (commit (txn 2 1 1) 1 1 (0
     ∷ commit (txn 1 1 1) 1 1 (0 ∷ 0 ∷ []) (Write 3 (pos 1) ∷ Read 3 ∷ []) [] (pair 3 1 ∷ [])
     ∷ commit (txn 1 1 1) 1 1 (0 ∷ 0 ∷ []) (Write 3 (pos 1) ∷ []) [] (pair 3 2 ∷ [])
     ∷ commit (txn 1 1 1) 1 1 (0 ∷ 0 ∷ []) (Read 3 ∷ []) (pair 3 0 ∷ []) []
-    ∷ []) ≡ Some why.NotRunning ∷ Some (why.WrongSite 1) ∷ Some (why.NotDue 1) ∷ Some (why.WrongVector (0 ∷ 0 ∷ [])) ∷ Some (why.Undeclared 5) ∷ Some why.WrongBody ∷ Some why.WrongBody ∷ Some why.NoWrites ∷ []
+    ∷ []) ≡ Some why.NotRunning ∷ Some (why.WrongSite 1) ∷ Some (why.NotDue 1) ∷ Some (why.WrongVector (0 ∷ 0 ∷ [])) ∷ Some (why.Undeclared 5)
+    ∷ Some why.WrongBody ∷ Some why.WrongBody ∷ Some why.NoWrites ∷ []
 a_commit_is_of_its_attempt = refl
 
 an_end_is_of_its_attempt : says (take 2 one_commit) (End 1 (txn 2 1 1) [] []
@@ -189,7 +200,8 @@ an_end_is_of_its_attempt : says (take 2 one_commit) (End 1 (txn 2 1 1) [] []
     ∷ []) ≡ Some why.NotRunning ∷ Some (why.WrongSite 1) ∷ Some why.HasWrites ∷ Some why.WrongBody ∷ []
 an_end_is_of_its_attempt = refl
 
-a_failure_is_of_its_attempt : says (take 2 one_commit) (Fail 1 (txn 2 1 1) cause.Memory ∷ Fail 2 (txn 1 1 1) cause.Memory ∷ []) ≡ Some why.NotRunning ∷ Some (why.WrongSite 1) ∷ []
+a_failure_is_of_its_attempt : says (take 2 one_commit) (Fail 1 (txn 2 1 1) cause.Memory ∷ Fail 2 (txn 1 1 1) cause.Memory ∷ []) ≡ Some why.NotRunning
+    ∷ Some (why.WrongSite 1) ∷ []
 a_failure_is_of_its_attempt = refl
 
 a_routed_attempt_may_fail_anywhere : says (take 1 one_commit) (Fail 1 (txn 1 1 1) cause.Memory ∷ Fail 2 (txn 1 1 1) cause.Memory ∷ []) ≡ None ∷ None ∷ []
@@ -216,7 +228,8 @@ a_partition_is_asked_by_a_route_that_wants_it : says two_wants (Ask 0 0 2 (txn 3
     ∷ []) ≡ Some why.NotRouted ∷ Some why.WrongWant ∷ Some why.WrongWant ∷ Some why.WrongWant ∷ Some (why.NotDue 0) ∷ []
 a_partition_is_asked_by_a_route_that_wants_it = refl
 
-a_transaction_asks_for_what_it_lacks_by_best_or_by_hand : says (route (txn 5 1 1) (3 ∷ []) (0 ∷ 0 ∷ []) 2 ∷ Route (txn 6 1 1) (want.Txn (3 ∷ 15 ∷ [])) (0 ∷ 0 ∷ []) 1 Best ∷ []) (Ask 0 0 2 (txn 5 1 1) ∷ Ask 1 0 1 (txn 6 1 1) ∷ []) ≡ None ∷ None ∷ []
+a_transaction_asks_for_what_it_lacks_by_best_or_by_hand : says (route (txn 5 1 1) (3 ∷ []) (0 ∷ 0 ∷ []) 2 ∷ Route (txn 6 1 1) (want.Txn (3 ∷ 15 ∷ []))
+    (0 ∷ 0 ∷ []) 1 Best ∷ []) (Ask 0 0 2 (txn 5 1 1) ∷ Ask 1 0 1 (txn 6 1 1) ∷ []) ≡ None ∷ None ∷ []
 a_transaction_asks_for_what_it_lacks_by_best_or_by_hand = refl
 
 no_partition_is_asked_for_where_it_is : says (Route (txn 3 1 1) (want.Place 0) (0 ∷ 0 ∷ []) 1 Hand ∷ []) (Ask 0 0 1 (txn 3 1 1) ∷ []) ≡ Some (why.Home 1) ∷ []
@@ -239,12 +252,14 @@ a_grant_is_as_it_was_released : says released (Grant 1 0 1 (1 ∷ 0 ∷ [])
     ∷ []) ≡ Some (why.WrongSite 2) ∷ Some (why.NotDue 1) ∷ Some (why.WrongVector (1 ∷ 0 ∷ [])) ∷ []
 a_grant_is_as_it_was_released = refl
 
-only_a_granted_partition_is_settled : says (released ++ (Refresh 2 1 ∷ Grant 2 0 1 (1 ∷ 0 ∷ []) ∷ [])) (Settle 1 0 ∷ Settle 0 0 ∷ []) ≡ Some why.NotGranted ∷ Some (why.NotDue 1) ∷ []
+only_a_granted_partition_is_settled : says (released ++ (Refresh 2 1 ∷ Grant 2 0 1 (1 ∷ 0 ∷ []) ∷ [])) (Settle 1 0 ∷ Settle 0 0 ∷ []) ≡ Some why.NotGranted
+    ∷ Some (why.NotDue 1) ∷ []
 only_a_granted_partition_is_settled = refl
 
 -- ---- Doubts
 
-a_doubt_is_judged_as_its_pending_step : says (take 2 one_commit) (Doubt 1 (pending.Commit (record { txn = txn 1 1 1; origin = 1; seq = 1; begin = 0 ∷ 0 ∷ []; ops = Read 3 ∷ []; reads = pair 3 0 ∷ []; writes = [] }))
+a_doubt_is_judged_as_its_pending_step : says (take 2 one_commit) (Doubt 1
+    (pending.Commit (record { txn = txn 1 1 1; origin = 1; seq = 1; begin = 0 ∷ 0 ∷ []; ops = Read 3 ∷ []; reads = pair 3 0 ∷ []; writes = [] }))
     ∷ Doubt 1 (pending.Release 0 0 2 (0 ∷ 0 ∷ []))
     ∷ Doubt 2 (pending.Grant 0 1 (0 ∷ 0 ∷ []))
     ∷ []) ≡ Some why.NoWrites ∷ Some why.NotAsked ∷ Some why.NotReleased ∷ []

@@ -33,7 +33,8 @@ no_site_restarts_below_its_floor = refl
 no_site_restarts_above_its_vector : refusal three_sites (reverse chained) (Restart 3 (1 ∷ 0 ∷ 0 ∷ []) Clean) ≡ Some (why.Ahead 1)
 no_site_restarts_above_its_vector = refl
 
-a_restart_vector_holds_what_its_entries_saw : refusal three_sites (reverse (chained ++ (Refresh 3 1 ∷ Refresh 3 2 ∷ []))) (Restart 3 (0 ∷ 1 ∷ 0 ∷ []) Clean) ≡ Some (why.NotClosed 2 1)
+a_restart_vector_holds_what_its_entries_saw : refusal three_sites (reverse (chained ++ (Refresh 3 1 ∷ Refresh 3 2 ∷ []))) (Restart 3 (0 ∷ 1 ∷ 0 ∷ []) Clean) ≡
+    Some (why.NotClosed 2 1)
 a_restart_vector_holds_what_its_entries_saw = refl
 
 refreshes_count_from_the_restart : site_vector 3 (reverse (chained ++ (Refresh 3 1 ∷ Restart 3 (0 ∷ 0 ∷ 0 ∷ []) Clean ∷ Refresh 3 1 ∷ []))) 3 ≡ 1 ∷ 0 ∷ 0 ∷ []
@@ -48,7 +49,16 @@ in_doubt =
     ∷ Begin 1 (txn 1 1 1) (0 ∷ 0 ∷ [])
     ∷ route (txn 2 1 1) (4 ∷ []) (0 ∷ 0 ∷ []) 1
     ∷ Begin 1 (txn 2 1 1) (0 ∷ 0 ∷ [])
-    ∷ Doubt 1 (pending.Commit (record { txn = txn 1 1 1; origin = 1; seq = 1; begin = 0 ∷ 0 ∷ []; ops = Write 3 (pos 9) ∷ []; reads = []; writes = pair 3 9 ∷ [] }))
+    ∷ Doubt 1 (pending.Commit (record {
+      txn = txn 1 1 1;
+      origin = 1;
+      seq = 1;
+      begin = 0 ∷ 0 ∷ [];
+      ops = Write 3 (pos 9) ∷ [];
+      reads = [];
+      writes = pair 3 9 ∷
+          [];
+    }))
     ∷ Reply 1 1 (said.InDoubt 1)
     ∷ []
 

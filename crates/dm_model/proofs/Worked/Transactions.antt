@@ -53,7 +53,8 @@ stale_and_fresh =
 a_site_is_read_at_its_own_vector : judge two_sites [] stale_and_fresh ≡ None
 a_site_is_read_at_its_own_vector = refl
 
-the_value_is_that_of_the_vector : (value two_sites (reverse stale_and_fresh) 3 (0 ∷ 0 ∷ []) ≡ pos 0) × (value two_sites (reverse stale_and_fresh) 3 (1 ∷ 0 ∷ []) ≡ pos 5)
+the_value_is_that_of_the_vector : (value two_sites (reverse stale_and_fresh) 3 (0 ∷ 0 ∷ []) ≡ pos 0)
+    × (value two_sites (reverse stale_and_fresh) 3 (1 ∷ 0 ∷ []) ≡ pos 5)
 the_value_is_that_of_the_vector = (refl, refl)
 
 a_site_that_has_all_has_none_to_refresh : refusal two_sites (reverse stale_and_fresh) (Refresh 2 1) ≡ Some why.Missing
