@@ -15,7 +15,9 @@ ghost use Rattle.dm_placement.specs.Scored.{vector_in};
 ghost use Rattle.dm_placement.specs.Tells.{AreSetsOf};
 ghost use Rattle.dm_clauses.specs.Choosing.{is_settled, all_settled, around, has_seen};
 
-use dm_event::{Choice, Key, Part, PartSet, Placing, Schema, SiteNo, Step, Vector};
+use dm_event::{
+    Choice, Key, MAX_PARTS, MAX_SITES, Part, PartSet, Placing, Schema, SiteNo, Step, Vector,
+};
 use dm_placement::{Window, choices_due, choose};
 use dm_plain::{placing, session_vector, site_vector};
 
@@ -94,12 +96,12 @@ fn home(schema: &Schema, steps: &[Step], part: Part) -> SiteNo
 }
 
 /// The home of each partition, that of partition 0 first, and 0 past the last.
-fn homes(schema: &Schema, steps: &[Step]) -> [SiteNo; 256]
+fn homes(schema: &Schema, steps: &[Step]) -> [SiteNo; MAX_PARTS as usize]
     requires { Legal schema.now steps.now }
-    ensures long { length result ≡ 256 }
+    ensures long { length result ≡ MAX_PARTS }
     ensures each { (p : ℕ) → p < length schema.now.masters → slice_index result p ≡ home schema.now (reverse steps.now) p }
 {
-    let mut homes = [0; 256];
+    let mut homes = [0; MAX_PARTS as usize];
     for part in 0..schema.parts() {
         homes[part as usize] = home(schema, steps, part);
     }
@@ -107,12 +109,12 @@ fn homes(schema: &Schema, steps: &[Step]) -> [SiteNo; 256]
 }
 
 /// The vector of each site, that of site 1 first.
-fn vectors(schema: &Schema, steps: &[Step]) -> [Vector; 8]
+fn vectors(schema: &Schema, steps: &[Step]) -> [Vector; MAX_SITES as usize]
     requires { Legal schema.now steps.now }
-    ensures long { length result ≡ 8 }
+    ensures long { length result ≡ MAX_SITES }
     ensures each { (site : ℕ) → 1 ≤ site → site ≤ schema.now.sites → vector_in result site ≡ site_vector schema.now.sites (reverse steps.now) site }
 {
-    let mut vectors = [Vector::zeros(schema.sites()); 8];
+    let mut vectors = [Vector::zeros(schema.sites()); MAX_SITES as usize];
     for site in 1..schema.sites() + 1 {
         vectors[site as usize - 1] = site_vector(schema, steps, site);
     }

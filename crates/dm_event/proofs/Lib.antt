@@ -2,5 +2,4 @@ pub mod Sites
 pub mod Backwards
 pub mod Components
 pub mod Rising
-pub mod Bounds
 pub mod Bits

@@ -1,12 +1,12 @@
 //! Sets of partitions.
 
-ghost use Rattle.std.specs.Prelude.{◌≡◌, ◌≢◌, ◌≤◌, ℕ, replicate, true};
+ghost use Rattle.std.specs.Prelude.{◌≡◌, ◌≢◌, ◌<◌, ℕ, replicate, true};
 ghost use Rattle.dm_event.specs.Parts.{has_part};
 
-use crate::Part;
+use crate::{MAX_PARTS, Part};
 use std::marker::Model;
 
-/// A set of the partitions 0 to 255.
+/// A set of partitions.
 #[derive(Clone, Copy, Debug, PartialEq, Eq)]
 pub struct PartSet {
     words: [u64; 4],
@@ -34,7 +34,7 @@ impl PartSet {
 
     /// Puts the partition in.
     pub fn add(&mut self, part: Part)
-        requires { part ≤ 255 }
+        requires { part < MAX_PARTS }
         ensures added { has_part self.new part ≡ true }
         ensures others { (other : ℕ) → other ≢ part → has_part self.new other ≡ has_part self.old other }
     {
@@ -42,7 +42,7 @@ impl PartSet {
     }
 
     pub fn holds(&self, part: Part) -> bool
-        requires { part ≤ 255 }
+        requires { part < MAX_PARTS }
         ensures { result ≡ has_part self.now part }
     {
         (self.words[(part / 64) as usize] >> (part % 64)) & 1 == 1

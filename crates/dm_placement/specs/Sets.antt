@@ -2,6 +2,7 @@
 use Rattle.std.specs.List.{AllPairs, range_with_len}
 use Rattle.std.specs.Prelude.{ℕ, ◌≡◌, ◌≢◌, ◌*◌, List, [], ◌∷◌, ◌++◌, filter, length}
 use Rattle.circular_buffer.specs.Buffer.{keep_last}
+use Rattle.dm_event.specs.declared.limits.TheConstants.{WINDOW}
 use Rattle.dm_event.specs.Parts.{has_part}
 use Rattle.dm_model.specs.Tests.{is_among}
 
@@ -14,6 +15,6 @@ pub record Holds (words parts : List ℕ) : Type 0 where
   pub members : (p : ℕ) → has_part words p ≡ is_among parts p
   pub once : AllPairs (λ p q. p ≢ q) parts
 
--- the last 256 sets, once one more is noted
+-- the last sets, once one more is noted
 abbrev pub noted : List (List ℕ) → List ℕ → List (List ℕ)
-noted sets set = keep_last 256 (sets ++ set ∷ [])
+noted sets set = keep_last WINDOW (sets ++ set ∷ [])

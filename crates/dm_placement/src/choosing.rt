@@ -4,7 +4,7 @@ ghost use Rattle.std.specs.Prelude.{◌≡◌, ℕ, ◌<◌, ◌≤◌, ◌<ℤ�
 ghost use Rattle.dm_placement.specs.Scored.{AreSites, HaveHomes, score_in, choice_in};
 
 use crate::{Window, scores};
-use dm_event::{PartSet, SiteNo, Vector, Weights};
+use dm_event::{MAX_PARTS, MAX_SITES, PartSet, SiteNo, Vector, Weights};
 
 /// The least site of greatest score, for what `scores` is given. It takes no memory.
 pub fn choose(
@@ -14,8 +14,8 @@ pub fn choose(
     weights: Weights,
     wanted: PartSet,
 ) -> SiteNo
-    requires parts { length homes.now ≤ 256 }
-    requires sites { (1 ≤ length vectors.now) × (length vectors.now ≤ 8) }
+    requires parts { length homes.now ≤ MAX_PARTS }
+    requires sites { (1 ≤ length vectors.now) × (length vectors.now ≤ MAX_SITES) }
     requires components { All (λ vector. length vector ≡ length vectors.now) vectors.now }
     requires homes { AreSites (length vectors.now) homes.now }
     requires wanted_homes { HaveHomes (length homes.now) wanted }

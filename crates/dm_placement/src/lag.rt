@@ -5,12 +5,12 @@ ghost use Rattle.dm_event.specs.Vectors.{at, join_all, sites_to};
 ghost use Rattle.dm_placement.specs.Scored.{home_in, vector_in, AreSites, HaveHomes};
 ghost use Rattle.dm_placement.specs.Sets.{parts_in};
 
-use dm_event::{Part, PartSet, SiteNo, Vector};
+use dm_event::{MAX_PARTS, MAX_SITES, Part, PartSet, SiteNo, Vector};
 
 /// What the homes of the wanted partitions have.
 pub(crate) fn need(homes: &[SiteNo], vectors: &[Vector], wanted: &PartSet) -> Vector
-    requires few { length homes.now ≤ 256 }
-    requires sites { (1 ≤ length vectors.now) × (length vectors.now ≤ 8) }
+    requires few { length homes.now ≤ MAX_PARTS }
+    requires sites { (1 ≤ length vectors.now) × (length vectors.now ≤ MAX_SITES) }
     requires components { All (λ vector. length vector ≡ length vectors.now) vectors.now }
     requires homes { AreSites (length vectors.now) homes.now }
     requires wanted_homes { HaveHomes (length homes.now) wanted.now }
@@ -27,9 +27,9 @@ pub(crate) fn need(homes: &[SiteNo], vectors: &[Vector], wanted: &PartSet) -> Ve
 
 /// How many entries the vector lacks of what is needed, at sites up to `sites`.
 pub(crate) fn lag(need: &Vector, vector: &Vector, sites: SiteNo) -> u128
-    requires { sites ≤ 8 }
+    requires { sites ≤ MAX_SITES }
     ensures exact { result ≡ sum_by (λ j. at need.now j - at vector.now j) (sites_to sites) }
-    ensures bound { result ≤ 8 * (2 ^ 64 - 1) }
+    ensures bound { result ≤ MAX_SITES * (2 ^ 64 - 1) }
 {
     let mut lag = 0;
     for site in 1..sites + 1 {

@@ -1,6 +1,6 @@
 //! Where a transaction should run whose partitions have different masters.
 //!
-//! A `Window` remembers the last 256 write sets. `scores` gives each site a score for a wanted set: for
+//! A `Window` remembers the last write sets. `scores` gives each site a score for a wanted set: for
 //! how even the use of the sites becomes, for how little the site lacks, and for what was used together.
 #![tactic(auto)]
 

@@ -7,32 +7,32 @@ ghost use Rattle.dm_placement.specs.Scored.{home_in, AreSites, HaveHomes};
 ghost use Rattle.dm_placement.specs.Sets.{parts_in};
 
 use crate::Window;
-use dm_event::{Part, PartSet, SiteNo};
+use dm_event::{MAX_PARTS, MAX_SITES, Part, PartSet, SiteNo, WINDOW};
 
 /// The loads of the sites: how often their partitions are in the sets of a window.
 #[derive(Clone, Copy)]
 pub(crate) struct Loads {
     /// Of all partitions, by their homes.
-    pub(crate) held: [u32; 8],
+    pub(crate) held: [u32; MAX_SITES as usize],
     /// Of those that aren't wanted.
-    others: [u32; 8],
+    others: [u32; MAX_SITES as usize],
     /// Of those that are, at all sites together.
     wanted: u32,
 }
 
 impl Loads {
     pub(crate) fn new(window: &Window, homes: &[SiteNo], wanted: &PartSet) -> Loads
-        requires few { length homes.now ≤ 256 }
-        requires sites { AreSites 8 homes.now }
-        ensures held { (site : ℕ) → 1 ≤ site → site ≤ 8 → slice_index result.held (site - 1) ≡ load 8 (length homes.now) (map parts_in window.now) (home_in homes.now) site }
-        ensures others { (site : ℕ) → 1 ≤ site → site ≤ 8 → slice_index result.others (site - 1) ≡ other_load (length homes.now) (map parts_in window.now) (home_in homes.now) (parts_in wanted.now) site }
+        requires few { length homes.now ≤ MAX_PARTS }
+        requires sites { AreSites MAX_SITES homes.now }
+        ensures held { (site : ℕ) → 1 ≤ site → site ≤ MAX_SITES → slice_index result.held (site - 1) ≡ load MAX_SITES (length homes.now) (map parts_in window.now) (home_in homes.now) site }
+        ensures others { (site : ℕ) → 1 ≤ site → site ≤ MAX_SITES → slice_index result.others (site - 1) ≡ other_load (length homes.now) (map parts_in window.now) (home_in homes.now) (parts_in wanted.now) site }
         ensures wanted { result.wanted ≡ wanted_load (length homes.now) (map parts_in window.now) (parts_in wanted.now) }
-        ensures eight { (length result.held ≡ 8) × (length result.others ≡ 8) }
-        ensures held_bound { (k : ℕ) → slice_index result.held k ≤ 65536 }
-        ensures others_bound { (k : ℕ) → slice_index result.others k + result.wanted ≤ 131072 }
+        ensures eight { (length result.held ≡ MAX_SITES) × (length result.others ≡ MAX_SITES) }
+        ensures held_bound { (k : ℕ) → slice_index result.held k ≤ WINDOW * MAX_PARTS }
+        ensures others_bound { (k : ℕ) → slice_index result.others k + result.wanted ≤ 2 * WINDOW * MAX_PARTS }
     {
-        let mut held = [0; 8];
-        let mut others = [0; 8];
+        let mut held = [0; MAX_SITES as usize];
+        let mut others = [0; MAX_SITES as usize];
         let mut moving = 0;
         for (index, home) in homes.iter().enumerate() {
             let part = index as Part;
@@ -53,11 +53,11 @@ impl Loads {
     }
 
     /// The loads with the wanted partitions at the site.
-    pub(crate) fn moved_to(&self, site: SiteNo) -> [u32; 8]
-        requires site { (1 ≤ site) × (site ≤ 8) }
-        requires room { (k : ℕ) → slice_index self.now.others k + self.now.wanted ≤ 131072 }
+    pub(crate) fn moved_to(&self, site: SiteNo) -> [u32; MAX_SITES as usize]
+        requires site { (1 ≤ site) × (site ≤ MAX_SITES) }
+        requires room { (k : ℕ) → slice_index self.now.others k + self.now.wanted ≤ 2 * WINDOW * MAX_PARTS }
         ensures exact { result ≡ slice_set self.now.others (site - 1) (slice_index self.now.others (site - 1) + self.now.wanted) }
-        ensures bound { (k : ℕ) → slice_index result k ≤ 131072 }
+        ensures bound { (k : ℕ) → slice_index result k ≤ 2 * WINDOW * MAX_PARTS }
     {
         let mut loads = self.others;
         loads[site as usize - 1] += self.wanted;
@@ -67,8 +67,8 @@ impl Loads {
 
 /// How far the loads are from even, times their number.
 pub(crate) fn uneven(loads: &[u32]) -> u32
-    requires sites { length loads.now ≤ 8 }
-    requires loads { (k : ℕ) → slice_index loads.now k ≤ 131072 }
+    requires sites { length loads.now ≤ MAX_SITES }
+    requires loads { (k : ℕ) → slice_index loads.now k ≤ 2 * WINDOW * MAX_PARTS }
     ensures exact { result ≡ sum_by (λ load. nat_abs (pos (length loads.now * load) -ℤ pos (sum loads.now))) loads.now }
     ensures bound { result ≤ 8388608 }
 {

@@ -7,7 +7,7 @@ ghost use Rattle.dm_placement.specs.Scored.{AreSites, HaveHomes, score_in};
 use crate::Window;
 use crate::lag::{lag, need};
 use crate::loads::{Loads, uneven};
-use dm_event::{PartSet, SiteNo, Vector, Weights};
+use dm_event::{MAX_PARTS, MAX_SITES, PartSet, SiteNo, Vector, WINDOW, Weights};
 
 /// The score of each site, that of site 1 first, and 0 past the number of sites: what its weights make
 /// of how much more even the loads would be with the wanted partitions there, less what the site lacks
@@ -19,9 +19,9 @@ pub fn scores(
     vectors: &[Vector],
     weights: Weights,
     wanted: PartSet,
-) -> [i128; 8]
-    requires parts { length homes.now ≤ 256 }
-    requires sites { (1 ≤ length vectors.now) × (length vectors.now ≤ 8) }
+) -> [i128; MAX_SITES as usize]
+    requires parts { length homes.now ≤ MAX_PARTS }
+    requires sites { (1 ≤ length vectors.now) × (length vectors.now ≤ MAX_SITES) }
     requires components { All (λ vector. length vector ≡ length vectors.now) vectors.now }
     requires homes { AreSites (length vectors.now) homes.now }
     requires wanted_homes { HaveHomes (length homes.now) wanted }
@@ -34,7 +34,7 @@ pub fn scores(
     let uneven_now = uneven(&loads.held[..sites]);
     let together = window.together(homes, &wanted);
     let need = need(homes, vectors, &wanted);
-    let mut scores = [0; 8];
+    let mut scores = [0; MAX_SITES as usize];
     for (index, vector) in vectors.iter().enumerate() {
         let site = index as u8 + 1;
         let uneven_there = uneven(&loads.moved_to(site)[..sites]);
@@ -47,8 +47,8 @@ pub fn scores(
 /// The weighted sum of a score's parts: the evenness won, less the lag, and what was used together.
 fn score(weights: Weights, uneven_now: u32, uneven_there: u32, lag: u128, together: u32) -> i128
     requires uneven { (uneven_now ≤ 8388608) × (uneven_there ≤ 8388608) }
-    requires lag { lag ≤ 8 * (2 ^ 64 - 1) }
-    requires together { together ≤ 65536 }
+    requires lag { lag ≤ MAX_SITES * (2 ^ 64 - 1) }
+    requires together { together ≤ WINDOW * MAX_PARTS }
     ensures exact { result ≡ (((pos weights.balance *ℤ (pos uneven_now -ℤ pos uneven_there)) -ℤ (pos weights.delay *ℤ pos lag)) +ℤ (pos weights.together *ℤ pos together)) }
     ensures bound { (negsuc (2 ^ 99 - 2) ≤ℤ result) × (result ≤ℤ pos (2 ^ 56)) }
 {
@@ -67,7 +67,7 @@ fn weighted_gain(weight: u32, before: u32, after: u32) -> i128
 }
 
 fn weighted_count(weight: u32, count: u128) -> i128
-    requires { count ≤ 8 * (2 ^ 64 - 1) }
+    requires { count ≤ MAX_SITES * (2 ^ 64 - 1) }
     ensures exact { result ≡ (pos weight *ℤ pos count) }
     ensures bound { (pos 0 ≤ℤ result) × (result ≤ℤ pos (4294967295 * count)) }
 {

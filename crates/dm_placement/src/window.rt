@@ -1,6 +1,6 @@
 //! The window of the last write sets.
 
-ghost use Rattle.std.specs.Prelude.{◌≡◌, ℕ, ◌-◌, ◌≤◌, ◌↔◌, [], length, map, count_by, slice_get, slice_index, IfOk, IsNone};
+ghost use Rattle.std.specs.Prelude.{◌≡◌, ◌*◌, ℕ, ◌-◌, ◌<◌, ◌≤◌, ◌↔◌, [], length, map, count_by, slice_get, slice_index, IfOk, IsNone};
 ghost use Rattle.dm_event.specs.Parts.{has_part};
 ghost use Rattle.dm_model.specs.Scores.{weight, together};
 ghost use Rattle.dm_placement.specs.Scored.{home_in, AreSites, HaveHomes};
@@ -8,14 +8,11 @@ ghost use Rattle.dm_placement.specs.Sets.{parts_in, noted};
 
 use crate::together::{count_others, meets};
 use circular_buffer::HeapCircularBuffer;
-use dm_event::{NoMemory, Part, PartSet, SiteNo};
+use dm_event::{MAX_PARTS, MAX_SITES, NoMemory, Part, PartSet, SiteNo, WINDOW};
 use std::alloc::Global;
 use std::marker::Model;
 
-/// How many write sets a window remembers.
-const MOST_SETS: usize = 256;
-
-/// The partitions of each of the last 256 transactions that declared some. Contracts see the sets, the
+/// The partitions of each of the last transactions that declared some. Contracts see the sets, the
 /// oldest first.
 #[derive(Debug, Drop)]
 pub struct Window {
@@ -34,16 +31,16 @@ impl Model for Window {
 }
 
 impl Window {
-    /// No set so far. It takes the memory for 256 sets at once, so that no later call needs any.
+    /// No set so far. It takes the memory for all sets at once, so that no later call needs any.
     pub fn new(alloc: Global) -> Result<Window, NoMemory>
         ensures { IfOk result (λ window. window ≡ []) }
     {
         Ok(Window {
-            sets: HeapCircularBuffer::with_capacity(alloc, MOST_SETS)?,
+            sets: HeapCircularBuffer::with_capacity(alloc, WINDOW)?,
         })
     }
 
-    /// Remembers the set, and forgets the oldest one where there are 256 already.
+    /// Remembers the set, and forgets the oldest one where there are as many as it keeps.
     pub fn note(&mut self, parts: PartSet)
         ensures { self.new ≡ noted self.old parts }
     {
@@ -60,24 +57,24 @@ impl Window {
 
     /// In how many of the sets the partition is.
     pub(crate) fn weight(&self, part: Part) -> u32
-        requires { part ≤ 255 }
+        requires { part < MAX_PARTS }
         ensures exact { result ≡ weight (map parts_in self.now) part }
-        ensures bound { result ≤ 256 }
+        ensures bound { result ≤ WINDOW }
     {
         let (older, newer) = self.sets.as_slices();
         (holding(older, part) + holding(newer, part)) as u32
     }
     /// For each site, that of site 1 first, how often a partition with home there was used together with
     /// a wanted one.
-    pub(crate) fn together(&self, homes: &[SiteNo], wanted: &PartSet) -> [u32; 8]
-        requires few { length homes.now ≤ 256 }
-        requires sites { AreSites 8 homes.now }
+    pub(crate) fn together(&self, homes: &[SiteNo], wanted: &PartSet) -> [u32; MAX_SITES as usize]
+        requires few { length homes.now ≤ MAX_PARTS }
+        requires sites { AreSites MAX_SITES homes.now }
         requires wanted_homes { HaveHomes (length homes.now) wanted.now }
-        ensures exact { (site : ℕ) → 1 ≤ site → site ≤ 8 → slice_index result (site - 1) ≡ together (map parts_in self.now) (home_in homes.now) (parts_in wanted.now) site }
-        ensures bound { (k : ℕ) → slice_index result k ≤ 65536 }
+        ensures exact { (site : ℕ) → 1 ≤ site → site ≤ MAX_SITES → slice_index result (site - 1) ≡ together (map parts_in self.now) (home_in homes.now) (parts_in wanted.now) site }
+        ensures bound { (k : ℕ) → slice_index result k ≤ WINDOW * MAX_PARTS }
     {
         let parts = homes.len() as Part;
-        let mut counts = [0; 8];
+        let mut counts = [0; MAX_SITES as usize];
         for set in self.sets.iter() {
             if meets(set, wanted, parts) {
                 count_others(set, homes, wanted, &mut counts);
@@ -89,7 +86,7 @@ impl Window {
 
 /// How many of the sets hold the partition.
 fn holding(sets: &[PartSet], part: Part) -> usize
-    requires { part ≤ 255 }
+    requires { part < MAX_PARTS }
     ensures exact { result ≡ count_by (λ set. has_part set part) sets.now }
     ensures bound { result ≤ length sets.now }
 {
