@@ -14,6 +14,3 @@ mod replay;
 pub use driving::drive;
 pub use file::{Schedule, read};
 pub use line::Line;
-
-#[cfg(test)]
-mod tests;
