@@ -15,6 +15,18 @@ use Rattle.dm_event.specs.declared.step.Said.{Said}
 use Rattle.dm_event.specs.declared.step.Said.TheVariants as saids
 use Rattle.dm_text.specs.Texts.{joined}
 
+-- words with a space between each two
+abbrev pub spaced : List (List ℕ) → List ℕ
+spaced [] = []
+spaced (word ∷ []) = word
+spaced (word ∷ next ∷ words) = word ++ (codes " " ++ spaced (next ∷ words))
+
+-- the same with a line feed at the end
+abbrev pub line_of : List (List ℕ) → List ℕ
+line_of [] = codes "\n"
+line_of (word ∷ []) = word ++ codes "\n"
+line_of (word ∷ next ∷ words) = word ++ (codes " " ++ line_of (next ∷ words))
+
 -- `3,15`, and `-` where there is none
 unfoldable pub keys_text : List ℕ → List ℕ
 keys_text [] = codes "-"
@@ -57,21 +69,21 @@ byte_text None = codes "-"
 unfoldable pub cause_text : Cause → List ℕ
 cause_text (Undeclared key) = codes "undeclared " ++ decimal key
 cause_text (Log site) = codes "log"
-cause_text (Damage site place read written) = codes "damage " ++ (decimal place ++ (codes " " ++ (byte_text read ++ (codes " " ++ byte_text written))))
+cause_text (Damage site place read written) = spaced (codes "damage" ∷ decimal place ∷ byte_text read ∷ byte_text written ∷ [])
 cause_text Memory = codes "memory"
 
 -- why an item was refused, with the site
 unfoldable pub refusal_text : Cause → List ℕ
 refusal_text (Undeclared key) = codes "undeclared " ++ decimal key
 refusal_text (Log site) = codes "log " ++ decimal site
-refusal_text (Damage site place read written) = codes "damage " ++ (decimal site ++ (codes " " ++ (decimal place ++ (codes " " ++ (byte_text read ++ (codes " " ++ byte_text written))))))
+refusal_text (Damage site place read written) = spaced (codes "damage" ∷ decimal site ∷ decimal place ∷ byte_text read ∷ byte_text written ∷ [])
 refusal_text Memory = codes "memory"
 
 -- how an item was answered
 unfoldable pub said_text : Said → List ℕ
-said_text (saids.Committed site seq) = codes "committed " ++ (decimal site ++ (codes " " ++ decimal seq))
+said_text (saids.Committed site seq) = spaced (codes "committed" ∷ decimal site ∷ decimal seq ∷ [])
 said_text (saids.Read site) = codes "read " ++ decimal site
 said_text (saids.InDoubt site) = codes "doubt " ++ decimal site
-said_text (saids.Placed part site epoch) = codes "placed " ++ (decimal part ++ (codes " " ++ (decimal site ++ (codes " " ++ decimal epoch))))
+said_text (saids.Placed part site epoch) = spaced (codes "placed" ∷ decimal part ∷ decimal site ∷ decimal epoch ∷ [])
 said_text (saids.Restarted site) = codes "restarted " ++ decimal site
 said_text (saids.Refused cause) = codes "refused " ++ refusal_text cause

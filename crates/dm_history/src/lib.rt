@@ -6,8 +6,6 @@ mod line;
 mod part;
 mod printing;
 mod reason;
-#[cfg(test)]
-mod tests;
 
 pub use fault::HistoryError;
 pub use part::{ByteText, ChoiceText};

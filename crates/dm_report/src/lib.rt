@@ -8,6 +8,3 @@ mod totals;
 
 pub use reply::put_reply;
 pub use rest::write_rest;
-
-#[cfg(test)]
-mod tests;

@@ -15,6 +15,3 @@ mod view;
 pub use driving::drive;
 pub use file::{Schedule, read};
 pub use line::Line;
-
-#[cfg(test)]
-mod tests;

@@ -1,2 +1,0 @@
-mod driving;
-mod reading;
