@@ -1,5 +1,5 @@
 -- A step that has its shape is judged by the clauses of its kind.
-use Rattle.std.proofs.Common.{◌≡◌, Bool, true, false, List, ◌∷◌, refl, ap, ◌∙◌}
+use Rattle.std.proofs.Common.{◌≡◌, Bool, true, false, List, refl, ap, ◌∙◌}
 use Rattle.std.proofs.lemmas.Bool.{false≢true}
 use Rattle.std.specs.Option.{option_or}
 use Rattle.dm_event.specs.Layout.{Layout}

@@ -1,7 +1,7 @@
 -- Sets of keys, and what a body writes.
 use Rattle.std.proofs.Common.{ℕ, ℤ, ◌≡◌, Bool, true, false, not, ◌==◌, nat_lt, if◌then◌else◌, List, [], ◌∷◌, None, map, refl, sym, ap, ◌∙◌, subst, inl, inr}
 use Rattle.std.proofs.Common.{◌⊎◌}
-use Rattle.std.proofs.lemmas.Bool.{eqb-true, eq-eqb, false≢true, and_parts, or_cases, or_left, or_right}
+use Rattle.std.proofs.lemmas.Bool.{eqb-true, eq-eqb, false≢true, or_cases, or_left, or_right}
 use Rattle.std.specs.List.{AllByRecursion as Each, list_any}
 use Rattle.std.specs.Prelude.{filter_map}
 use Rattle.dm_event.specs.declared.step.Op.{Op}
@@ -10,7 +10,7 @@ use Rattle.dm_event.specs.declared.step.Pair.{Pair}
 use Rattle.dm_model.proofs.ListFacts.{find_none}
 use Rattle.dm_model.specs.Allowed.{common_key}
 use Rattle.dm_model.specs.Bodies.{put, body, run_from, after_op, Ran, written_key, first_undeclared}
-use Rattle.dm_model.specs.Tests.{same_pair, same_pairs, is_among}
+use Rattle.dm_model.specs.Tests.{is_among}
 
 pub each_among : (P : ℕ → Type 0) (xs : List ℕ) (x : ℕ) → Each P xs → is_among xs x ≡ true → P x
 each_among P [] x h m = absurd (false≢true m)
@@ -32,18 +32,6 @@ no_common keys others h key m n = false≢true (sym (each_among (λ k. is_among 
 
 abbrev pub has_key : List Pair → ℕ → Bool
 has_key ps key = list_any (λ p. p.key == key) ps
-
-pub same_keys : (xs ys : List Pair) (key : ℕ) → same_pairs xs ys ≡ true → has_key xs key ≡ true → has_key ys key ≡ true
-same_keys [] [] key h m = m
-same_keys [] (y ∷ ys) key h m = absurd (false≢true h)
-same_keys (x ∷ xs) [] key h m = absurd (false≢true h)
-same_keys (x ∷ xs) (y ∷ ys) key h m =
-    let p = and_parts (same_pair x y) (same_pairs xs ys) h in
-    let e = eqb-true x.key y.key (and_parts (x.key == y.key) _ p.0).0 in
-    elim (or_cases (x.key == key) (has_key xs key) m) [
-      | inl q ↦ or_left (y.key == key) _ (ap (λ (k : ℕ). k == key) (sym e) ∙ q)
-      | inr q ↦ or_right (y.key == key) _ (same_keys xs ys key p.1 q)
-    ]
 
 has_put : (ps : List Pair) (k : ℕ) (v : ℤ) (key : ℕ) → has_key (put ps k v) key ≡ true → (k ≡ key) ⊎ (has_key ps key ≡ true)
 has_put [] k v key h = elim (or_cases (k == key) false h) [ inl q ↦ inl (eqb-true k key q) | inr q ↦ absurd (false≢true q) ]

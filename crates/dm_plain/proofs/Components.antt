@@ -1,7 +1,7 @@
 -- Vectors by their components.
-use Rattle.std.proofs.Common.{ℕ, zero, suc, ◌+◌, ◌<◌, ◌≤◌, ◌≡◌, List, [], ◌∷◌, length, get_or, refl, ap, sym, ◌∙◌, arith, max}
+use Rattle.std.proofs.Common.{ℕ, zero, suc, ◌≤◌, ◌≡◌, List, [], ◌∷◌, length, get_or, refl, ap, sym, ◌∙◌, arith, max}
 use Rattle.std.specs.Prelude.{replicate, map, Option, Some, None, IfSome}
-use Rattle.std.specs.List.{range_with_len, cons_option}
+use Rattle.std.specs.List.{cons_option}
 use Rattle.dm_event.specs.Vectors.{at, vector_by, join_all, join, greatest}
 use Rattle.dm_event.proofs.Components.{at_join, same_components, zeros_from, long_join}
 use Rattle.dm_plain.specs.Adding.{join_one}
