@@ -1,18 +1,13 @@
 //! A partition goes from one site to another.
 
 use crate::steps::{
-    PLACED, SETTLE, ask, ask_for, begin, book, by_hand, first_of, grant, moved, placing, push,
-    push_all, refresh, refused, release, reply, restart, route, start, vector, write,
+    PLACED, SETTLE, ask, ask_for, begin, book, by_hand, first_of, grant, placing, push, push_all,
+    refresh, refused, release, reply, vector, write,
 };
-use dm_core::{AttemptState, Book, Placing};
-use dm_event::{Choice, Entry, Found, Op, Ops, Pair, Pairs, Said, Step, TxnId, Want, Why};
+use dm_core::{Book, Placing};
+use dm_event::{Entry, Op, Ops, Pair, Pairs, Said, Step, Want, Why};
 use std::alloc::Global;
 use std::test::Fail;
-
-/// Only site 1's vector will do.
-fn due() -> Option<Why> {
-    Some(Why::WrongVector { due: vector(1, 0) })
-}
 
 /// Session 1 has committed the value 5 of key 3 at site 1.
 fn written(alloc: Global) -> Result<Book, Fail> {
@@ -73,21 +68,6 @@ fn added(alloc: Global) -> Result<Book, Fail> {
 }
 
 #[test]
-fn a_writer_holds_its_key(rt: HostRuntime) -> Result<(), Fail> {
-    let alloc = rt.alloc();
-    let mut book = book(alloc, &[1, 2])?;
-    begin(alloc, &mut book, first_of(1), 3, 1, vector(0, 0))?;
-    let other = route(alloc, first_of(2), &[4, 3], vector(0, 0), (1, Choice::Hand))?;
-    push(&mut book, other)?;
-    let held = Why::Held {
-        by: first_of(1),
-        key: 3,
-    };
-    assert_eq!(rt; refused(&book, &start(2, 1, vector(0, 0))), Some(held));
-    Ok(())
-}
-
-#[test]
 fn a_release_waits_for_a_running_writer(rt: HostRuntime) -> Result<(), Fail> {
     let alloc = rt.alloc();
     let mut book = book(alloc, &[1, 2])?;
@@ -98,17 +78,6 @@ fn a_release_waits_for_a_running_writer(rt: HostRuntime) -> Result<(), Fail> {
     for (site, part, txn) in [(1, 0, Some(first_of(1))), (2, 0, None), (1, 1, None)] {
         assert_eq!(rt; book.runner(site, part), txn, "{site} {part}");
     }
-    Ok(())
-}
-
-#[test]
-fn a_grant_waits_for_the_vector_of_the_release(rt: HostRuntime) -> Result<(), Fail> {
-    let mut book = asked(rt.alloc())?;
-    assert_eq!(rt; refused(&book, &release(vector(0, 0))), due());
-    push(&mut book, release(vector(1, 0)))?;
-    let behind = Why::Behind { component: 1 };
-    assert_eq!(rt; refused(&book, &grant(vector(1, 0))), Some(behind));
-    assert_eq!(rt; refused(&book, &grant(vector(0, 0))), due());
     Ok(())
 }
 
@@ -150,47 +119,5 @@ fn a_write_at_the_new_master_follows_those_at_the_old(rt: HostRuntime) -> Result
     assert_eq!(rt; book.vector(2), vector(1, 1));
     assert_eq!(rt; book.value(3, &vector(1, 1)), 6);
     assert_eq!(rt; book.value(3, &vector(1, 0)), 5);
-    Ok(())
-}
-
-#[test]
-fn a_place_is_answered_with_its_last_epoch(rt: HostRuntime) -> Result<(), Fail> {
-    let alloc = rt.alloc();
-    assert_eq!(rt; asked(alloc)?.said_for(3), None);
-    assert_eq!(rt; taken_over(alloc)?.said_for(3), Some(PLACED));
-    Ok(())
-}
-
-#[test]
-fn a_transaction_at_the_old_master_is_moved(rt: HostRuntime) -> Result<(), Fail> {
-    let alloc = rt.alloc();
-    let mut book = asked(alloc)?;
-    let sent = route(alloc, first_of(2), &[3], vector(0, 0), (1, Choice::Hand))?;
-    push(&mut book, sent)?;
-    let at_old = start(2, 1, vector(1, 0));
-    assert_eq!(rt; refused(&book, &at_old), Some(Why::Elsewhere { part: 0 }));
-    push(&mut book, moved(2, 1))?;
-    assert_eq!(rt; book.attempt(2).state, AttemptState::Moved);
-    let again = TxnId {
-        session: 2,
-        number: 1,
-        attempt: 2,
-    };
-    let sent = route(alloc, again, &[3], vector(0, 0), (2, Choice::Hand))?;
-    push(&mut book, sent)?;
-    assert_eq!(rt; book.attempt(2).txn, Some(again));
-    Ok(())
-}
-
-#[test]
-fn a_restart_has_the_vectors_of_its_grants_in_its_floor(rt: HostRuntime) -> Result<(), Fail> {
-    let alloc = rt.alloc();
-    assert_eq!(rt; asked(alloc)?.floor(2), vector(0, 0));
-    let mut book = taken_over(alloc)?;
-    assert_eq!(rt; book.floor(2), vector(1, 0));
-    let low = restart(2, vector(0, 0), Found::Clean);
-    assert_eq!(rt; refused(&book, &low), Some(Why::Behind { component: 1 }));
-    push(&mut book, restart(2, vector(1, 0), Found::Clean))?;
-    assert_eq!(rt; book.vector(2), vector(1, 0));
     Ok(())
 }

@@ -1,12 +1,11 @@
-//! A release or a grant is in doubt, and what else runs at a site that goes down.
+//! A release is in doubt, and what else runs at a site that goes down.
 
 use crate::handing::asked;
 use crate::steps::{
-    begin, book, doubted_grant, doubted_release, first_of, placing, push, push_all, refresh,
-    refused, restart, vector, writer,
+    begin, book, doubted_release, first_of, placing, push, restart, vector, writer,
 };
 use dm_core::{AttemptState, Book, Placing};
-use dm_event::{Found, Pending, Step, Why};
+use dm_event::{Found, Pending, Step};
 use std::alloc::Global;
 use std::test::Fail;
 
@@ -14,18 +13,6 @@ use std::test::Fail;
 fn release_in_doubt(alloc: Global) -> Result<Book, Fail> {
     let mut book = asked(alloc)?;
     push(&mut book, doubted_release(vector(1, 0)))?;
-    Ok(book)
-}
-
-/// The release is kept, and site 2 doesn't know whether it took the partition over.
-fn grant_in_doubt(alloc: Global) -> Result<Book, Fail> {
-    let mut book = release_in_doubt(alloc)?;
-    let steps = [
-        restart(1, vector(1, 0), Found::Kept),
-        refresh(2, 1),
-        doubted_grant(vector(1, 0)),
-    ];
-    push_all(&mut book, steps)?;
     Ok(book)
 }
 
@@ -40,32 +27,6 @@ fn a_release_that_is_lost_was_none(rt: HostRuntime) -> Result<(), Fail> {
     assert_eq!(rt; placing(&book, 0)?, asked);
     push(&mut book, restart(1, vector(1, 0), Found::Lost))?;
     assert_eq!(rt; placing(&book, 0)?, asked);
-    Ok(())
-}
-
-#[test]
-fn a_release_that_is_kept_hands_the_partition_on(rt: HostRuntime) -> Result<(), Fail> {
-    let book = grant_in_doubt(rt.alloc())?;
-    let between = Placing::Between {
-        site: 1,
-        epoch: 0,
-        to: 2,
-        vector: vector(1, 0),
-    };
-    assert_eq!(rt; placing(&book, 0)?, between);
-    assert_eq!(rt; book.floor(2), vector(0, 0));
-    // The grant counts in the floor once it is kept.
-    let low = restart(2, vector(0, 0), Found::Kept);
-    assert_eq!(rt; refused(&book, &low), Some(Why::Behind { component: 1 }));
-    Ok(())
-}
-
-#[test]
-fn a_grant_that_is_kept_takes_the_partition_over(rt: HostRuntime) -> Result<(), Fail> {
-    let mut book = grant_in_doubt(rt.alloc())?;
-    push(&mut book, restart(2, vector(1, 0), Found::Kept))?;
-    assert_eq!(rt; placing(&book, 0)?, Placing::Granted { site: 2, epoch: 1 });
-    assert_eq!(rt; book.floor(2), vector(1, 0));
     Ok(())
 }
 

@@ -15,8 +15,6 @@ mod places;
 #[cfg(test)]
 mod reading;
 #[cfg(test)]
-mod restarts;
-#[cfg(test)]
 mod stages;
 #[cfg(test)]
 mod steps;
