@@ -1,5 +1,6 @@
 -- On which partitions of its keys a site may not begin.
-use Rattle.std.proofs.Common.{ℕ, zero, suc, ◌+◌, ◌/◌, ◌<◌, ◌≡◌, Bool, true, false, cond, not, List, [], ◌∷◌, Option, Some, None, length, drop, get_or, refl, ap, sym, ◌∙◌, arith}
+use Rattle.std.proofs.Common.{ℕ, zero, suc, ◌+◌, ◌/◌, ◌<◌, ◌≡◌, Bool, true, false, cond, not, List, [], ◌∷◌, Option, Some, None, length, drop, get_or, refl, ap}
+use Rattle.std.proofs.Common.{sym, ◌∙◌, arith}
 use Rattle.std.specs.Prelude.{find, nat_lt}
 use Rattle.std.specs.List.{list_all}
 use Rattle.std.specs.Option.{option_or}
@@ -17,7 +18,8 @@ pub part_is : (layout : Layout) (key : ℕ) → is_key layout key ≡ true → p
 part_is layout key h = cond-true (nat_lt key (key_count layout)) _ _ h
 
 first_key : (layout : Layout) (past : List Step) (site key : ℕ) (ps : List ℕ)
-    → find (λ p. not (may_begin_now (placing layout past p) site)) (key / layout.width ∷ ps) ≡ option_or (away layout past site key) (find (λ p. not (may_begin_now (placing layout past p) site)) ps)
+    → find (λ p. not (may_begin_now (placing layout past p) site)) (key / layout.width ∷ ps) ≡ option_or (away layout past site key)
+        (find (λ p. not (may_begin_now (placing layout past p) site)) ps)
 first_key layout past site key ps = by_test (not (may_begin_now (placing layout past (key / layout.width)) site))
   where
     by_test : (b : Bool) → cond b (Some (key / layout.width)) (find (λ p. not (may_begin_now (placing layout past p) site)) ps)

@@ -34,12 +34,14 @@ all_distinct : (q : ℕ → Bool) (xs : List ℕ) → list_all q (distinct xs) �
 all_distinct q [] = refl
 all_distinct q (x ∷ xs) = by_test (is_among xs x) refl (all_distinct q xs)
   where
-    by_test : (b : Bool) → is_among xs x ≡ b → list_all q (distinct xs) ≡ list_all q xs → list_all q (cond b (distinct xs) (x ∷ distinct xs)) ≡ (q x && list_all q xs)
+    by_test : (b : Bool) → is_among xs x ≡ b → list_all q (distinct xs) ≡ list_all q xs
+        → list_all q (cond b (distinct xs) (x ∷ distinct xs)) ≡ (q x && list_all q xs)
     by_test true e h = h ∙ pass_again (q x) (list_all q xs) (among_pass q xs x e)
     by_test false e h = ap (λ (b : Bool). q x && b) h
 
 -- all partitions of the keys are settled at the site where that of each key is
-pub settled_parts : (layout : Layout) (past : List Step) (keys : List ℕ) (site : ℕ) → list_all (λ p. settled_at (placing layout past p) site) (parts_of layout keys) ≡ all_settled layout past site keys
+pub settled_parts : (layout : Layout) (past : List Step) (keys : List ℕ) (site : ℕ)
+    → list_all (λ p. settled_at (placing layout past p) site) (parts_of layout keys) ≡ all_settled layout past site keys
 settled_parts layout past keys site =
     all_distinct (λ p. settled_at (placing layout past p) site) (parts_in_order layout keys)
     ∙ list_all-map (λ p. settled_at (placing layout past p) site) (λ key. key / layout.width) keys
@@ -50,7 +52,8 @@ find_map : (p : ℕ → Bool) (f : ℕ → ℕ) (xs : List ℕ) → find p (map 
 find_map p f [] = refl
 find_map p f (x ∷ xs) = by_test (p (f x)) (find_map p f xs)
   where
-    by_test : (b : Bool) → find p (map f xs) ≡ option_map f (find (λ x. p (f x)) xs) → cond b (Some (f x)) (find p (map f xs)) ≡ option_map f (cond b (Some x) (find (λ x. p (f x)) xs))
+    by_test : (b : Bool) → find p (map f xs) ≡ option_map f (find (λ x. p (f x)) xs)
+        → cond b (Some (f x)) (find p (map f xs)) ≡ option_map f (cond b (Some x) (find (λ x. p (f x)) xs))
     by_test true h = refl
     by_test false h = h
 
@@ -58,15 +61,20 @@ own_first : (n : ℕ) → n ≡ n + 0
 own_first n = omega arith
 
 module _ (layout : Layout) (past : List Step) (session : ℕ) where
-  pub reader_found : (k : ℕ) → k < layout.sites → has_seen layout past session k ≡ true → ((j : ℕ) → j < k → has_seen layout past session j ≡ false) → reader_site layout past session ≡ around layout session k
+  pub reader_found : (k : ℕ) → k < layout.sites → has_seen layout past session k ≡ true → ((j : ℕ) → j < k → has_seen layout past session j ≡ false)
+      → reader_site layout past session ≡ around layout session k
   reader_found k l h before =
       ap (λ (o : Option ℕ). unwrap_or o (1 + (session - 1) % layout.sites))
-      (find_map (λ site. is_at_most (session_vector layout.sites past session) (site_vector layout.sites past site)) (around layout session) (range_with_len 0 layout.sites)
-      ∙ ap (λ (o : Option ℕ). option_map (around layout session) o) (find_first (has_seen layout past session) 0 layout.sites k (omega arith) (omega (arith, l)) h (λ j x y. before j y)))
+      (find_map (λ site. is_at_most (session_vector layout.sites past session) (site_vector layout.sites past site)) (around layout session)
+          (range_with_len 0 layout.sites)
+      ∙ ap (λ (o : Option ℕ). option_map (around layout session) o) (find_first (has_seen layout past session) 0 layout.sites k (omega arith) (omega (arith, l))
+          h (λ j x y. before j y)))
 
   pub reader_none : ((j : ℕ) → j < layout.sites → has_seen layout past session j ≡ false) → reader_site layout past session ≡ around layout session 0
   reader_none before =
       ap (λ (o : Option ℕ). unwrap_or o (1 + (session - 1) % layout.sites))
-      (find_map (λ site. is_at_most (session_vector layout.sites past session) (site_vector layout.sites past site)) (around layout session) (range_with_len 0 layout.sites)
-      ∙ ap (λ (o : Option ℕ). option_map (around layout session) o) (find_nothing (has_seen layout past session) 0 layout.sites (λ j x y. before j (omega (arith, y)))))
+      (find_map (λ site. is_at_most (session_vector layout.sites past session) (site_vector layout.sites past site)) (around layout session)
+          (range_with_len 0 layout.sites)
+      ∙ ap (λ (o : Option ℕ). option_map (around layout session) o) (find_nothing (has_seen layout past session) 0 layout.sites
+          (λ j x y. before j (omega (arith, y)))))
       ∙ ap (λ (n : ℕ). 1 + n % layout.sites) (own_first (session - 1))

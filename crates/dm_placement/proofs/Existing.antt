@@ -1,5 +1,6 @@
 -- In a legal history each partition of the window exists.
-use Rattle.std.proofs.Common.{ℕ, zero, suc, ◌*◌, ◌/◌, ◌<◌, ◌≡◌, Bool, true, List, [], ◌∷◌, Option, Some, None, length, take, refl, sym, ap, ◌∙◌, arith, inl, inr}
+use Rattle.std.proofs.Common.{ℕ, zero, suc, ◌*◌, ◌/◌, ◌<◌, ◌≡◌, Bool, true, List, [], ◌∷◌, Option, Some, None, length, take, refl, sym, ap, ◌∙◌, arith, inl}
+use Rattle.std.proofs.Common.{inr}
 use Rattle.std.specs.List.{AllByRecursion as Each, list_all, cons_option, filter_map}
 use Rattle.std.specs.Prelude.{◌||◌, nat_le}
 use Rattle.std.proofs.Math.Nat.{div-lt_iff_lt-mul}
@@ -35,7 +36,8 @@ key_below layout key h =
     let small : key < length layout.masters * layout.width = ltb-true key (length layout.masters * layout.width) h in
     elim (cases_lt 0 layout.width) [
       | inl wide ↦ (div-lt_iff_lt-mul wide).1 small
-      | inr none ↦ absurd (let e : length layout.masters * layout.width ≡ length layout.masters * 0 = ap (λ (n : ℕ). length layout.masters * n) (omega (arith, none)) in omega (arith, e, small))
+      | inr none ↦ absurd (let e : length layout.masters * layout.width ≡ length layout.masters * 0 =
+          ap (λ (n : ℕ). length layout.masters * n) (omega (arith, none)) in omega (arith, e, small))
     ]
 
 keys_below : (layout : Layout) (keys : List ℕ) → list_all (is_key layout) keys ≡ true → Below (length layout.masters) (parts_in_order layout keys)
@@ -47,7 +49,8 @@ keys_below layout (key ∷ keys) h p e =
       | inr d ↦ keys_below layout keys parts.1 p (sym (ap (λ (b : Bool). b || is_among (parts_in_order layout keys) p) (ne_eqb (key / layout.width) p d)) ∙ e)
     ]
 
-declared_below : (layout : Layout) (past : List Step) (s : Step) (parts : List ℕ) → Allowed layout past s → declared_parts layout s ≡ Some parts → Below (length layout.masters) parts
+declared_below : (layout : Layout) (past : List Step) (s : Step) (parts : List ℕ) → Allowed layout past s → declared_parts layout s ≡ Some parts
+    → Below (length layout.masters) parts
 declared_below layout past (Route txn (want.Txn (key ∷ keys)) min site choice) parts a e p among =
     let route = Route txn (want.Txn (key ∷ keys)) min site choice in
     let wanted = (and_parts (is_want layout (want.Txn (key ∷ keys))) _ (and_parts (is_txn layout txn) _ (shape_of layout past route a)).1).0 in
@@ -59,7 +62,8 @@ declared_below layout past s parts a e p among = absurd (cc (e))
 routes_below : (layout : Layout) (past : List Step) → LegalPast layout past → Each (Below (length layout.masters)) (filter_map (declared_parts layout) past)
 routes_below layout [] h = tt
 routes_below layout (s ∷ past) h =
-    each_option (Below (length layout.masters)) (declared_parts layout s) (filter_map (declared_parts layout) past) (λ parts e. declared_below layout past s parts h.1 e) (routes_below layout past h.0)
+    each_option (Below (length layout.masters)) (declared_parts layout s) (filter_map (declared_parts layout) past)
+    (λ parts e. declared_below layout past s parts h.1 e) (routes_below layout past h.0)
 
 pub window_below : (layout : Layout) (past : List Step) → LegalPast layout past → Each (Below (length layout.masters)) (window_of layout past)
 window_below layout past h = each_take (Below (length layout.masters)) 256 (filter_map (declared_parts layout) past) (routes_below layout past h)
