@@ -1,5 +1,6 @@
 -- A body op by op, and the order of its writes.
-use Rattle.std.proofs.Common.{ℕ, ℤ, zero, suc, ◌+◌, ◌<◌, ◌≤◌, ◌≡◌, Bool, true, false, ◌==◌, nat_lt, cond, List, [], ◌∷◌, ◌++◌, map, get_or, refl, sym, subst, arith}
+use Rattle.std.proofs.Common.{ℕ, ℤ, zero, suc, ◌+◌, ◌<◌, ◌≤◌, ◌≡◌, Bool, true, false, ◌==◌, nat_lt, cond, List, [], ◌∷◌, ◌++◌, map, get_or, refl, sym, subst}
+use Rattle.std.proofs.Common.{arith}
 use Rattle.std.specs.List.Sorted.{IsStrictlyIncreasing}
 use Rattle.std.specs.Int.{w64, int_wrapping_add}
 use Rattle.std.proofs.lemmas.Bool.{ltb-true, ltb-false, eqb-true, eqb-false, lt-ltb, and_from}
@@ -26,7 +27,9 @@ abbrev pub Rises : ℕ → List Pair → Type 0
 Rises low [] = Unit {0}
 Rises low (p ∷ ps) = (low ≤ p.key) × Rises (suc p.key) ps
 
-put_step : (b c : Bool) (p new : Pair) (ps puts : List Pair) (low : ℕ) → (b ≡ true → p.key < new.key) → (b ≡ false → new.key ≤ p.key) → (c ≡ true → p.key ≡ new.key) → (c ≡ false → p.key ≡ new.key → ⊥) → low ≤ new.key → (suc p.key ≤ new.key → Rises (suc p.key) puts) → Rises low (p ∷ ps) → Rises low (cond b (p ∷ puts) (cond c (new ∷ ps) (new ∷ (p ∷ ps))))
+put_step : (b c : Bool) (p new : Pair) (ps puts : List Pair) (low : ℕ) → (b ≡ true → p.key < new.key) → (b ≡ false → new.key ≤ p.key)
+    → (c ≡ true → p.key ≡ new.key) → (c ≡ false → p.key ≡ new.key → ⊥) → low ≤ new.key → (suc p.key ≤ new.key → Rises (suc p.key) puts) → Rises low (p ∷ ps)
+    → Rises low (cond b (p ∷ puts) (cond c (new ∷ ps) (new ∷ (p ∷ ps))))
 put_step true c p new ps puts low lt ge is not le rest h = (h.0, rest (lt refl))
 put_step false true p new ps puts low lt ge is not le rest h = (le, subst (λ (k : ℕ). Rises (suc k) ps) (is refl) h.1)
 put_step false false p new ps puts low lt ge is not le rest h =
@@ -37,7 +40,8 @@ put_step false false p new ps puts low lt ge is not le rest h =
 pub put_rises : (ps : List Pair) (key : ℕ) (value : ℤ) (low : ℕ) → low ≤ key → Rises low ps → Rises low (put ps key value)
 put_rises [] key value low le h = (le, tt)
 put_rises (p ∷ ps) key value low le h =
-    put_step (nat_lt p.key key) (p.key == key) p (record { key = key; value = value }) ps (put ps key value) low (ltb-true p.key key) (ltb-false p.key key) (eqb-true p.key key) (eqb-false p.key key) le (λ l. put_rises ps key value (suc p.key) l h.1) h
+    put_step (nat_lt p.key key) (p.key == key) p (record { key = key; value = value }) ps (put ps key value) low (ltb-true p.key key) (ltb-false p.key key)
+    (eqb-true p.key key) (eqb-false p.key key) le (λ l. put_rises ps key value (suc p.key) l h.1) h
 
 op_rises : (f : ℕ → ℤ) (ran : Ran) (op : Op) → Rises 0 ran.writes → Rises 0 (after_op f ran op).writes
 op_rises f ran (Read key) h = h

@@ -1,9 +1,11 @@
 -- When a list is the writes of ops.
-use Rattle.std.proofs.Common.{ℕ, ℤ, zero, suc, ◌+◌, ◌<◌, ◌≤◌, ◌≡◌, ◌≢◌, Bool, true, false, ◌==◌, nat_lt, cond, List, [], ◌∷◌, Option, Some, None, length, get_or, refl, sym, ap, ◌∙◌, subst, arith, inl, inr, ◌⊎◌, unwrap_or, int_eq, pos}
+use Rattle.std.proofs.Common.{ℕ, ℤ, zero, suc, ◌+◌, ◌<◌, ◌≤◌, ◌≡◌, ◌≢◌, Bool, true, false, ◌==◌, nat_lt, cond, List, [], ◌∷◌, Option, Some, None, length}
+use Rattle.std.proofs.Common.{get_or, refl, sym, ap, ◌∙◌, subst, arith, inl, inr, ◌⊎◌, unwrap_or, int_eq, pos}
 use Rattle.std.specs.Prelude.{filter_map, is_some}
 use Rattle.std.specs.List.{list_all, IsAllAdjacentAnswer, AllAdjacentBelow}
 use Rattle.std.specs.Int.{w64, int_wrapping_add}
-use Rattle.std.proofs.lemmas.Bool.{ltb-true, lt-ltb, eqb-true, eq-eqb, ne_eqb, cases_eq, cases_lt, cases_order, cases_Bool, both_ways, cond-true, cond-false, and_parts, and_from, false≢true}
+use Rattle.std.proofs.lemmas.Bool.{ltb-true, lt-ltb, eqb-true, eq-eqb, ne_eqb, cases_eq, cases_lt, cases_order, cases_Bool, both_ways, cond-true, cond-false}
+use Rattle.std.proofs.lemmas.Bool.{and_parts, and_from, false≢true}
 use Rattle.std.proofs.lemmas.Bool.Decides.{Decides-int_eq}
 use lib.Pointwise.{pointwise_decides}
 use Rattle.dm_event.specs.declared.step.Pair.{Pair}
@@ -32,7 +34,8 @@ same_by r xs ys is has =
 
 -- ---- the keys ascend
 
-rises_from_adjacent : (ps : List Pair) (low : ℕ) → ((p : Pair) → low ≤ (get_or ps 0 p).key) → AllAdjacentBelow (λ x y. true ≡ nat_lt x.key y.key) ps (length ps) → Rises low ps
+rises_from_adjacent : (ps : List Pair) (low : ℕ) → ((p : Pair) → low ≤ (get_or ps 0 p).key) → AllAdjacentBelow (λ x y. true ≡ nat_lt x.key y.key) ps (length ps)
+    → Rises low ps
 rises_from_adjacent [] low least h = tt
 rises_from_adjacent (p ∷ []) low least h = (least p, tt)
 rises_from_adjacent (p ∷ q ∷ ps) low least h = (
@@ -128,7 +131,8 @@ own_from_pairs own (p ∷ ps) key value h e =
     ]
 
 -- and the pairs that give each key its own write pass
-pairs_own : (own : ℕ → Option ℤ) (ps : List Pair) (low : ℕ) → Rises low ps → ((key : ℕ) (value : ℤ) → written ps key ≡ Some value → own key ≡ Some value) → are_own own ps ≡ true
+pairs_own : (own : ℕ → Option ℤ) (ps : List Pair) (low : ℕ) → Rises low ps → ((key : ℕ) (value : ℤ) → written ps key ≡ Some value → own key ≡ Some value)
+    → are_own own ps ≡ true
 pairs_own own [] low r h = refl
 pairs_own own (p ∷ ps) low r h =
     and_from (is_value (own p.key) p.value) (are_own own ps) (value_same (own p.key) p.value (h p.key p.value (at_first p ps)))
@@ -147,7 +151,8 @@ unwritten_put : (has : ℕ → Bool) (ps : List Pair) (q : ℕ) (value : ℤ) (k
 unwritten_put has ps q value key h n =
     written-put ps q value key ∙ cond-false (q == key) (Some value) (written ps key) (ne_eqb q key (λ e. both_ways (has key) n (ap has (sym e) ∙ h)))
 
-unwritten : (f : ℕ → ℤ) (has : ℕ → Bool) (ran : Ran) (ops : List Op) (key : ℕ) → have_each has ops ≡ true → has key ≡ false → written (run_from f ran ops).writes key ≡ written ran.writes key
+unwritten : (f : ℕ → ℤ) (has : ℕ → Bool) (ran : Ran) (ops : List Op) (key : ℕ) → have_each has ops ≡ true → has key ≡ false
+    → written (run_from f ran ops).writes key ≡ written ran.writes key
 unwritten f has ran [] key h n = refl
 unwritten f has ran (Read q ∷ ops) key h n = unwritten f has (after_op f ran (Read q)) ops key h n
 unwritten f has ran (Write q value ∷ ops) key h n =
@@ -155,7 +160,8 @@ unwritten f has ran (Write q value ∷ ops) key h n =
     unwritten f has (after_op f ran (Write q value)) ops key both.1 n ∙ unwritten_put has ran.writes q value key both.0 n
 unwritten f has ran (Add q by ∷ ops) key h n =
     let both = and_parts (has q) (have_each has ops) h in
-    unwritten f has (after_op f ran (Add q by)) ops key both.1 n ∙ unwritten_put has ran.writes q (int_wrapping_add w64 (unwrap_or (written ran.writes q) (f q)) by) key both.0 n
+    unwritten f has (after_op f ran (Add q by)) ops key both.1 n ∙ unwritten_put has ran.writes q
+    (int_wrapping_add w64 (unwrap_or (written ran.writes q) (f q)) by) key both.0 n
 
 abbrev pub has_key : List Pair → ℕ → Bool
 has_key ps key = is_some (written ps key)
@@ -175,7 +181,8 @@ kept : (f : ℕ → ℤ) (ran : Ran) (ops : List Op) (key : ℕ) → has_key ran
 kept f ran [] key h = h
 kept f ran (Read q ∷ ops) key h = kept f (after_op f ran (Read q)) ops key h
 kept f ran (Write q value ∷ ops) key h = kept f (after_op f ran (Write q value)) ops key (put_has ran.writes q value key (inr h))
-kept f ran (Add q by ∷ ops) key h = kept f (after_op f ran (Add q by)) ops key (put_has ran.writes q (int_wrapping_add w64 (unwrap_or (written ran.writes q) (f q)) by) key (inr h))
+kept f ran (Add q by ∷ ops) key h = kept f (after_op f ran (Add q by)) ops key
+    (put_has ran.writes q (int_wrapping_add w64 (unwrap_or (written ran.writes q) (f q)) by) key (inr h))
 
 -- each key that an op writes has an own write
 all_kept : (f : ℕ → ℤ) (ran : Ran) (ops : List Op) → have_each (has_key (run_from f ran ops).writes) ops ≡ true
@@ -183,10 +190,12 @@ all_kept f ran [] = refl
 all_kept f ran (Read q ∷ ops) = all_kept f (after_op f ran (Read q)) ops
 all_kept f ran (Write q value ∷ ops) =
     let next = after_op f ran (Write q value) in
-    and_from (has_key (run_from f next ops).writes q) (have_each (has_key (run_from f next ops).writes) ops) (kept f next ops q (put_has ran.writes q value q (inl refl))) (all_kept f next ops)
+    and_from (has_key (run_from f next ops).writes q) (have_each (has_key (run_from f next ops).writes) ops)
+    (kept f next ops q (put_has ran.writes q value q (inl refl))) (all_kept f next ops)
 all_kept f ran (Add q by ∷ ops) =
     let next = after_op f ran (Add q by) in
-    and_from (has_key (run_from f next ops).writes q) (have_each (has_key (run_from f next ops).writes) ops) (kept f next ops q (put_has ran.writes q (int_wrapping_add w64 (unwrap_or (written ran.writes q) (f q)) by) q (inl refl))) (all_kept f next ops)
+    and_from (has_key (run_from f next ops).writes q) (have_each (has_key (run_from f next ops).writes) ops)
+    (kept f next ops q (put_has ran.writes q (int_wrapping_add w64 (unwrap_or (written ran.writes q) (f q)) by) q (inl refl))) (all_kept f next ops)
 
 -- ---- the writes of ops
 
@@ -216,4 +225,5 @@ module _ (f : ℕ → ℤ) (ops : List Op) (writes : List Pair) where
   writes_have e = subst (λ (ps : List Pair). have_each (has_key ps) ops ≡ true) (sym e) (all_kept f (record { reads = []; writes = [] }) ops)
 
   pub writes_own : writes ≡ (body ops f).writes → are_own (written (body ops f).writes) writes ≡ true
-  writes_own e = subst (λ (ps : List Pair). are_own (written (body ops f).writes) ps ≡ true) (sym e) (pairs_own (written (body ops f).writes) (body ops f).writes 0 (body_rises ops f) (λ key value h. h))
+  writes_own e = subst (λ (ps : List Pair). are_own (written (body ops f).writes) ps ≡ true) (sym e)
+      (pairs_own (written (body ops f).writes) (body ops f).writes 0 (body_rises ops f) (λ key value h. h))

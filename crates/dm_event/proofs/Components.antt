@@ -65,7 +65,8 @@ joined (suc n) (x ∷ a) (y ∷ b) (z ∷ c) h i j e =
     ∙ ap (λ (l : List ℕ). max x y ∷ l) (joined n a b c (omega (arith, h)) (omega (arith, i)) (omega (arith, j)) (λ k m. e (suc k) (omega (arith, m))))
 
 -- the same, as a vector's fields are seen
-pub joined_fields : (n m k : ℕ) (p q r u v : List ℕ) → take n p ≡ u → take m q ≡ v → length u ≡ length v → n ≤ 8 → m ≤ 8 → length p ≡ 8 → length q ≡ 8 → length r ≡ 8
+pub joined_fields : (n m k : ℕ) (p q r u v : List ℕ) → take n p ≡ u → take m q ≡ v → length u ≡ length v → n ≤ 8 → m ≤ 8 → length p ≡ 8 → length q ≡ 8
+    → length r ≡ 8
     → k ≡ n → ((i : ℕ) → i < 8 → get_or r i 0 ≡ max (get_or p i 0) (get_or q i 0)) → take k r ≡ join u v
 joined_fields n m k p q r u v e f l a b x y z g h =
     let one : length (take n p) ≡ n = length-take-le n p (omega (arith, a, x)) in
@@ -115,7 +116,8 @@ at_most_from n m p q e f l h (suc k) =
       | inr a ↦ (let one = kept_component n p e k in let two = past_end p k (omega (arith, l, a)) in omega (arith, one, two))
     ]
 
-pub not_at_most : (n m : ℕ) (p q : List ℕ) → p ≡ padded (take n p) → q ≡ padded (take m q) → (k : ℕ) → get_or q k 0 < get_or p k 0 → AtMost (take n p) (take m q) → ⊥
+pub not_at_most : (n m : ℕ) (p q : List ℕ) → p ≡ padded (take n p) → q ≡ padded (take m q) → (k : ℕ) → get_or q k 0 < get_or p k 0
+    → AtMost (take n p) (take m q) → ⊥
 not_at_most n m p q e f k h a =
     let one = kept_component n p e k in
     let two = kept_component m q f k in

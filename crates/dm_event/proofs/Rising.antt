@@ -1,5 +1,6 @@
 -- Keys in ascending order: what a sort makes of them is their ascending list.
-use Rattle.std.proofs.Common.{ℕ, zero, suc, ◌+◌, ◌<◌, ◌≤◌, ◌≡◌, ◌≢◌, List, [], ◌∷◌, Option, Some, None, length, get_or, refl, ap, sym, ◌∙◌, arith, subst, inl, inr}
+use Rattle.std.proofs.Common.{ℕ, zero, suc, ◌+◌, ◌<◌, ◌≤◌, ◌≡◌, ◌≢◌, List, [], ◌∷◌, Option, Some, None, length, get_or, refl, ap, sym, ◌∙◌, arith, subst, inl}
+use Rattle.std.proofs.Common.{inr}
 use Rattle.std.specs.Prelude.{◌==◌, nat_lt, option_map, option_and_then, if◌then◌else◌, sum_by}
 use Rattle.std.specs.List.Sorted.{IsStrictlyIncreasing, IsPermutation, IsSorted}
 use Rattle.std.specs.Ordering.{nat_cmp}
@@ -57,8 +58,10 @@ same_list (x ∷ xs) (y ∷ ys) r s h = elim (cases_order x y) [
       let two : times z (x ∷ xs) ≡ (if y == z then 1 else 0) + times z xs = ap (λ (w : ℕ). (if w == z then 1 else 0) + times z xs) e in
       omega (arith, one, two))))
   | inr o ↦ elim o [
-    | inl l ↦ absurd (let one = h x in let two = here x xs in let three : times x (y ∷ ys) ≡ 0 = none_below x (y ∷ ys) (l, below_less x y ys l s.0) in omega (arith, one, two, three))
-    | inr g ↦ absurd (let one = h y in let two = here y ys in let three : times y (x ∷ xs) ≡ 0 = none_below y (x ∷ xs) (g, below_less y x xs g r.0) in omega (arith, one, two, three))
+    | inl l ↦ absurd (let one = h x in let two = here x xs in let three : times x (y ∷ ys) ≡ 0 = none_below x (y ∷ ys) (l, below_less x y ys l s.0) in
+        omega (arith, one, two, three))
+    | inr g ↦ absurd (let one = h y in let two = here y ys in let three : times y (x ∷ xs) ≡ 0 = none_below y (x ∷ xs) (g, below_less y x xs g r.0) in
+        omega (arith, one, two, three))
   ]
 ]
 
@@ -104,14 +107,16 @@ with_key_same : (key x : ℕ) (xs : List ℕ) → x ≡ key → with_key key (x 
 with_key_same key x xs e = cond-false (nat_lt x key) _ _ (le-ltb x key (omega (arith, e))) ∙ cond-true (x == key) _ _ (eq-eqb x key e)
 
 with_key_above : (key x : ℕ) (xs : List ℕ) → key < x → with_key key (x ∷ xs) ≡ Some (key ∷ (x ∷ xs))
-with_key_above key x xs h = cond-false (nat_lt x key) _ _ (le-ltb x key (omega (arith, h))) ∙ cond-false (x == key) _ _ (ne_eqb x key (λ e. omega (arith, e, h)))
+with_key_above key x xs h = cond-false (nat_lt x key) _ _ (le-ltb x key (omega (arith, h)))
+    ∙ cond-false (x == key) _ _ (ne_eqb x key (λ e. omega (arith, e, h)))
 
 placed_same : (key x : ℕ) (xs : List ℕ) → x ≡ key → Placed key (x ∷ xs) None
 placed_same key x xs e = record {
   rises = λ zs f. absurd (cc (f));
   counts = λ zs f. absurd (cc (f));
   lower = λ zs f. absurd (cc (f));
-  again = λ f. (let one : times key (x ∷ xs) ≡ 1 + times key xs = subst (λ (z : ℕ). times key (z ∷ xs) ≡ 1 + times key xs) (sym e) (here key xs) in omega (arith, one));
+  again = λ f. (let one : times key (x ∷ xs) ≡ 1 + times key xs = subst (λ (z : ℕ). times key (z ∷ xs) ≡ 1 + times key xs) (sym e) (here key xs) in
+      omega (arith, one));
 }
 
 placed : (key : ℕ) (xs : List ℕ) → Rises xs → Placed key xs (with_key key xs)
@@ -119,8 +124,10 @@ placed key [] r = placed_first key [] tt tt
 placed key (x ∷ xs) r = elim (cases_order x key) [
   | inl e ↦ subst (λ (o : Option (List ℕ)). Placed key (x ∷ xs) o) (sym (with_key_same key x xs e)) (placed_same key x xs e)
   | inr o ↦ elim o [
-    | inl l ↦ subst (λ (o : Option (List ℕ)). Placed key (x ∷ xs) o) (sym (with_key_below key x xs l)) (placed_after key x xs (with_key key xs) l r.0 (placed key xs r.1))
-    | inr g ↦ subst (λ (o : Option (List ℕ)). Placed key (x ∷ xs) o) (sym (with_key_above key x xs g)) (placed_first key (x ∷ xs) (g, below_less key x xs g r.0) r)
+    | inl l ↦ subst (λ (o : Option (List ℕ)). Placed key (x ∷ xs) o) (sym (with_key_below key x xs l))
+        (placed_after key x xs (with_key key xs) l r.0 (placed key xs r.1))
+    | inr g ↦ subst (λ (o : Option (List ℕ)). Placed key (x ∷ xs) o) (sym (with_key_above key x xs g))
+        (placed_first key (x ∷ xs) (g, below_less key x xs g r.0) r)
   ]
 ]
 
@@ -158,8 +165,10 @@ below_from x (y ∷ ys) h = (h zero (omega arith), below_from x ys (λ k l. h (s
 
 rises_from : (xs : List ℕ) → ((i j : ℕ) → i < j → j < length xs → get_or xs i 0 < get_or xs j 0) → Rises xs
 rises_from [] h = tt
-rises_from (x ∷ xs) h =
-    (below_from x xs (λ k l. h zero (suc k) (omega arith) (omega (arith, l))), rises_from xs (λ i j l m. h (suc i) (suc j) (omega (arith, l)) (omega (arith, m))))
+rises_from (x ∷ xs) h = (
+  below_from x xs (λ k l. h zero (suc k) (omega arith) (omega (arith, l))),
+  rises_from xs (λ i j l m. h (suc i) (suc j) (omega (arith, l)) (omega (arith, m))),
+)
 
 rises_strictly : (xs : List ℕ) → IsStrictlyIncreasing xs → Rises xs
 rises_strictly xs h = rises_from xs (λ i j l m. AllPairs-from_increasing xs h i j 0 l m)
@@ -180,7 +189,8 @@ two_here (x ∷ (y ∷ ys)) zero h e =
     let two : times x (y ∷ ys) ≡ 1 + times x ys = subst (λ (z : ℕ). times x (z ∷ ys) ≡ 1 + times x ys) f (here x ys) in
     omega (arith, one, two)
 two_here (x ∷ (y ∷ ys)) (suc k) h e =
-    let more : 2 ≤ times (get_or (y ∷ ys) k 0) (y ∷ ys) = two_here (y ∷ ys) k (omega (arith, h)) (e ∙ ap (λ (n : ℕ). get_or (x ∷ (y ∷ ys)) n 0) (let i : suc k + 1 ≡ suc (k + 1) = omega arith in i)) in
+    let more : 2 ≤ times (get_or (y ∷ ys) k 0) (y ∷ ys) = two_here (y ∷ ys) k (omega (arith, h)) (e
+    ∙ ap (λ (n : ℕ). get_or (x ∷ (y ∷ ys)) n 0) (let i : suc k + 1 ≡ suc (k + 1) = omega arith in i)) in
     omega (arith, more)
 
 -- strictly ascending keys that are those of the list are its ascending list
@@ -188,8 +198,10 @@ pub ascending_is : (list sorted : List ℕ) → IsPermutation list sorted → Is
 ascending_is list sorted p h = by_cases (ascending list) (in_order list)
   where
     by_cases : (o : Option (List ℕ)) → InOrder list o → o ≡ Some sorted
-    by_cases None s = absurd (let t = s.twice refl in let one = t.1 in let two = same_times list sorted p t.0 in let three = once t.0 sorted (rises_strictly sorted h) in omega (arith, one, two, three))
-    by_cases (Some zs) s = ap (λ (l : List ℕ). Some l) (same_list zs sorted (s.rises zs refl) (rises_strictly sorted h) (λ x. s.counts zs refl x ∙ sym (same_times list sorted p x)))
+    by_cases None s = absurd (let t = s.twice refl in let one = t.1 in let two = same_times list sorted p t.0 in let three =
+        once t.0 sorted (rises_strictly sorted h) in omega (arith, one, two, three))
+    by_cases (Some zs) s = ap (λ (l : List ℕ). Some l) (same_list zs sorted (s.rises zs refl) (rises_strictly sorted h)
+        (λ x. s.counts zs refl x ∙ sym (same_times list sorted p x)))
 
 -- keys that do not rise strictly once they are sorted have no ascending list
 pub no_ascending : (list sorted : List ℕ) → IsPermutation list sorted → IsSorted nat_cmp sorted → (IsStrictlyIncreasing sorted → ⊥) → ascending list ≡ None

@@ -1,5 +1,6 @@
 -- What a schema says: sites, partitions, opening values, weights.
-use Rattle.std.specs.Prelude.{ℕ, ℤ, pos, ◌*◌, ◌/◌, Bool, nat_le, nat_lt, ◌&&◌, if◌then◌else◌, List, Option, Some, None, option_map, unwrap_or, find, reverse, length}
+use Rattle.std.specs.Prelude.{ℕ, ℤ, pos, ◌*◌, ◌/◌, Bool, nat_le, nat_lt, ◌&&◌, if◌then◌else◌, List, Option, Some, None, option_map, unwrap_or, find, reverse}
+use Rattle.std.specs.Prelude.{length}
 use Rattle.std.specs.List.{list_all}
 use Rattle.dm_event.specs.declared.limits.TheConstants.{MAX_SITES, MAX_WIDTH, MAX_PARTS, MAX_RANGES, MAX_WEIGHT, MAX_SESSIONS}
 use Rattle.dm_event.specs.declared.schema.Weights.{Weights}
@@ -31,7 +32,8 @@ fits_range keys r = nat_le r.first r.last && nat_lt r.last keys
 -- the layout keeps the limits of a schema
 abbrev pub is_layout : Layout → Bool
 is_layout l =
-    is_between 1 MAX_SITES l.sites && (is_between 1 MAX_WIDTH l.width && (is_between 1 MAX_PARTS (length l.masters) && (list_all (is_between 1 l.sites) l.masters
+    is_between 1 MAX_SITES l.sites && (is_between 1 MAX_WIDTH l.width &&
+    (is_between 1 MAX_PARTS (length l.masters) && (list_all (is_between 1 l.sites) l.masters
     && (fits_weights l.weights && (nat_le (length l.values) MAX_RANGES && list_all (fits_range (key_count l)) l.values)))))
 
 -- the layout, where it keeps the limits

@@ -18,7 +18,8 @@ pub answer_after_got : (keys : List ℕ) (claims more : List Claim) → answer k
 answer_after_got keys [] more h = refl
 answer_after_got keys (claim ∷ claims) more h = step (answer_after_got keys claims more) (common_key keys claim.keys) h
   where
-    step : (answer keys claims ≡ Got → answer keys (claims ++ more) ≡ answer keys more) → (o : Option ℕ) → first_or_got (cons_option (option_map (λ key. Waits claim.txn key) o) (filter_map (obstacle keys) claims)) ≡ Got
+    step : (answer keys claims ≡ Got → answer keys (claims ++ more) ≡ answer keys more) → (o : Option ℕ)
+        → first_or_got (cons_option (option_map (λ key. Waits claim.txn key) o) (filter_map (obstacle keys) claims)) ≡ Got
         → first_or_got (cons_option (option_map (λ key. Waits claim.txn key) o) (filter_map (obstacle keys) (claims ++ more))) ≡ answer keys more
     step rest None e = rest e
     step rest (Some key) e = absurd (cc (e))
@@ -27,8 +28,10 @@ pub answer_stays : (keys : List ℕ) (claims more : List Claim) → (answer keys
 answer_stays keys [] more h = absurd (h refl)
 answer_stays keys (claim ∷ claims) more h = step (answer_stays keys claims more) (common_key keys claim.keys) h
   where
-    step : ((answer keys claims ≡ Got → ⊥) → answer keys (claims ++ more) ≡ answer keys claims) → (o : Option ℕ) → (first_or_got (cons_option (option_map (λ key. Waits claim.txn key) o) (filter_map (obstacle keys) claims)) ≡ Got → ⊥)
-        → first_or_got (cons_option (option_map (λ key. Waits claim.txn key) o) (filter_map (obstacle keys) (claims ++ more))) ≡ first_or_got (cons_option (option_map (λ key. Waits claim.txn key) o) (filter_map (obstacle keys) claims))
+    step : ((answer keys claims ≡ Got → ⊥) → answer keys (claims ++ more) ≡ answer keys claims) → (o : Option ℕ)
+        → (first_or_got (cons_option (option_map (λ key. Waits claim.txn key) o) (filter_map (obstacle keys) claims)) ≡ Got → ⊥)
+        → first_or_got (cons_option (option_map (λ key. Waits claim.txn key) o) (filter_map (obstacle keys) (claims ++ more))) ≡ first_or_got
+        (cons_option (option_map (λ key. Waits claim.txn key) o) (filter_map (obstacle keys) claims))
     step rest None n = rest n
     step rest (Some key) n = refl
 
@@ -37,7 +40,8 @@ pub got_shares_none : (keys : List ℕ) (claims : List Claim) → answer keys cl
 got_shares_none keys [] h = tt
 got_shares_none keys (claim ∷ claims) h = step (got_shares_none keys claims) (common_key keys claim.keys) refl h
   where
-    step : (answer keys claims ≡ Got → Each (λ other. common_key keys other.keys ≡ None) claims) → (o : Option ℕ) → common_key keys claim.keys ≡ o → first_or_got (cons_option (option_map (λ key. Waits claim.txn key) o) (filter_map (obstacle keys) claims)) ≡ Got
+    step : (answer keys claims ≡ Got → Each (λ other. common_key keys other.keys ≡ None) claims) → (o : Option ℕ) → common_key keys claim.keys ≡ o
+        → first_or_got (cons_option (option_map (λ key. Waits claim.txn key) o) (filter_map (obstacle keys) claims)) ≡ Got
         → (common_key keys claim.keys ≡ None) × Each (λ other. common_key keys other.keys ≡ None) claims
     step rest None e g = (e, rest g)
     step rest (Some key) e g = absurd (cc (g))
@@ -46,6 +50,7 @@ pub got_where_none : (keys : List ℕ) (claims : List Claim) → Each (λ claim.
 got_where_none keys [] h = refl
 got_where_none keys (claim ∷ claims) h = step (got_where_none keys claims h.1) (common_key keys claim.keys) h.0
   where
-    step : answer keys claims ≡ Got → (o : Option ℕ) → o ≡ None → first_or_got (cons_option (option_map (λ key. Waits claim.txn key) o) (filter_map (obstacle keys) claims)) ≡ Got
+    step : answer keys claims ≡ Got → (o : Option ℕ) → o ≡ None → first_or_got
+        (cons_option (option_map (λ key. Waits claim.txn key) o) (filter_map (obstacle keys) claims)) ≡ Got
     step rest None e = rest
     step rest (Some key) e = absurd (cc (e))

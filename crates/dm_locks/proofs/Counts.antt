@@ -12,7 +12,8 @@ pub count-append : {X : Type 0} (p : X → Bool) (xs ys : List X) → count_of p
 count-append p [] ys = omega arith
 count-append p (x ∷ xs) ys = count_step (p x) (count_of p (xs ++ ys)) (count_of p xs) (count_of p ys) (count-append p xs ys)
 
-filter_step : {X : Type 0} (p q : X → Bool) (x : X) (xs : List X) → count_of p (filter q xs) ≤ count_of p xs → (a b : Bool) → p x ≡ a → count_of p (cond b (x ∷ filter q xs) (filter q xs)) ≤ cond a (suc (count_of p xs)) (count_of p xs)
+filter_step : {X : Type 0} (p q : X → Bool) (x : X) (xs : List X) → count_of p (filter q xs) ≤ count_of p xs → (a b : Bool) → p x ≡ a
+    → count_of p (cond b (x ∷ filter q xs) (filter q xs)) ≤ cond a (suc (count_of p xs)) (count_of p xs)
 filter_step p q x xs h true true e = rw e (omega arith)
 filter_step p q x xs h true false e = omega arith
 filter_step p q x xs h false true e = rw e h
@@ -90,7 +91,8 @@ above_step false c t t' e h = omega arith
 -- one with a number above n counts for none of them
 total_above : {X : Type 0} (f : X → ℕ) (n : ℕ) (x : X) (xs : List X) → n < f x → total f n (x ∷ xs) ≡ total f n xs
 total_above f zero x xs l = refl
-total_above f (suc n) x xs l = above_step (f x == suc n) (count_of (λ y. f y == suc n) xs) (total f n xs) (total f n (x ∷ xs)) (ne_eqb (f x) (suc n) (λ e. omega (arith, e))) (total_above f n x xs (omega arith))
+total_above f (suc n) x xs l = above_step (f x == suc n) (count_of (λ y. f y == suc n) xs) (total f n xs) (total f n (x ∷ xs))
+    (ne_eqb (f x) (suc n) (λ e. omega (arith, e))) (total_above f n x xs (omega arith))
 
 at_step : (b : Bool) (c t t' : ℕ) → b ≡ true → t' ≡ t → cond b (suc c) c + t' ≡ suc (c + t)
 at_step true c t t' e h = omega arith
@@ -103,8 +105,10 @@ below_step false c t t' e h = omega arith
 total_more : {X : Type 0} (f : X → ℕ) (n : ℕ) (x : X) (xs : List X) → 1 ≤ f x → f x ≤ n → total f n (x ∷ xs) ≡ suc (total f n xs)
 total_more f zero x xs l m = absurd (omega arith)
 total_more f (suc n) x xs l m = elim (cases_eq (f x) (suc n)) [
-  | inl e ↦ at_step (f x == suc n) (count_of (λ y. f y == suc n) xs) (total f n xs) (total f n (x ∷ xs)) (eq-eqb (f x) (suc n) e) (total_above f n x xs (omega (arith, e)))
-  | inr e ↦ below_step (f x == suc n) (count_of (λ y. f y == suc n) xs) (total f n xs) (total f n (x ∷ xs)) (ne_eqb (f x) (suc n) e) (total_more f n x xs l (omega (arith, e)))
+  | inl e ↦ at_step (f x == suc n) (count_of (λ y. f y == suc n) xs) (total f n xs) (total f n (x ∷ xs)) (eq-eqb (f x) (suc n) e)
+      (total_above f n x xs (omega (arith, e)))
+  | inr e ↦ below_step (f x == suc n) (count_of (λ y. f y == suc n) xs) (total f n xs) (total f n (x ∷ xs)) (ne_eqb (f x) (suc n) e)
+      (total_more f n x xs l (omega (arith, e)))
 ]
 
 total_length : {X : Type 0} (f : X → ℕ) (n : ℕ) (xs : List X) → Each (λ x. (1 ≤ f x) × (f x ≤ n)) xs → length xs ≡ total f n xs

@@ -19,24 +19,30 @@ use Rattle.dm_model.specs.Tests.{is_among}
 common_from : (keys : List ℕ) (claim : Claim) (key : ℕ) → common_key keys claim.keys ≡ Some key → IsCommon keys claim key
 common_from keys claim key e = (found_among (is_among claim.keys) key keys e, found_holds (is_among claim.keys) keys key e)
 
-pub got_apart : (keys : List ℕ) (claims : List Claim) → answer keys claims ≡ Got → (claim : Claim) → Contains claims claim → (key : ℕ) → IsCommon keys claim key → ⊥
+pub got_apart : (keys : List ℕ) (claims : List Claim) → answer keys claims ≡ Got → (claim : Claim) → Contains claims claim → (key : ℕ) → IsCommon keys claim key
+    → ⊥
 got_apart keys claims got claim there key common =
-    no_common keys claim.keys (each_at (λ other. common_key keys other.keys ≡ None) claim claims (in_from claim claims there.0 there.1 there.2) (got_shares_none keys claims got)) key common.0 common.1
+    no_common keys claim.keys (each_at (λ other. common_key keys other.keys ≡ None) claim claims (in_from claim claims there.0 there.1 there.2)
+    (got_shares_none keys claims got)) key common.0 common.1
 
-pub apart_got : (keys : List ℕ) (claims : List Claim) → ((claim : Claim) → Contains claims claim → (key : ℕ) → IsCommon keys claim key → ⊥) → answer keys claims ≡ Got
+pub apart_got : (keys : List ℕ) (claims : List Claim) → ((claim : Claim) → Contains claims claim → (key : ℕ) → IsCommon keys claim key → ⊥)
+    → answer keys claims ≡ Got
 apart_got keys claims apart =
-    got_where_none keys claims (each_from (λ other. common_key keys other.keys ≡ None) claims (λ claim m. none claim (common_key keys claim.keys) refl (apart claim (in_contains claim claims m))))
+    got_where_none keys claims (each_from (λ other. common_key keys other.keys ≡ None) claims
+    (λ claim m. none claim (common_key keys claim.keys) refl (apart claim (in_contains claim claims m))))
   where
     none : (claim : Claim) (o : Option ℕ) → common_key keys claim.keys ≡ o → ((key : ℕ) → IsCommon keys claim key → ⊥) → common_key keys claim.keys ≡ None
     none claim None e f = e
     none claim (Some key) e f = absurd (f key (common_from keys claim key e))
 
 -- the first that passes of an ascending list is the least
-least_passes : (p : ℕ → Bool) (key other : ℕ) (keys : List ℕ) → Ascends keys → find p keys ≡ Some key → is_among keys other ≡ true → p other ≡ true → key ≤ other
+least_passes : (p : ℕ → Bool) (key other : ℕ) (keys : List ℕ) → Ascends keys → find p keys ≡ Some key → is_among keys other ≡ true → p other ≡ true
+    → key ≤ other
 least_passes p key other [] up e m t = absurd (false≢true m)
 least_passes p key other (k ∷ ks) up e m t = by_test (p k) refl e (least_passes p key other ks up.1)
   where
-    by_test : (b : Bool) → p k ≡ b → cond b (Some k) (find p ks) ≡ Some key → (find p ks ≡ Some key → is_among ks other ≡ true → p other ≡ true → key ≤ other) → key ≤ other
+    by_test : (b : Bool) → p k ≡ b → cond b (Some k) (find p ks) ≡ Some key → (find p ks ≡ Some key → is_among ks other ≡ true → p other ≡ true → key ≤ other)
+        → key ≤ other
     by_test true q e rest =
         let same : k ≡ key = cc (e) in
         elim (or_cases (k == other) (is_among ks other) m) [
@@ -48,7 +54,8 @@ least_passes p key other (k ∷ ks) up e m t = by_test (p k) refl e (least_passe
       | inr r ↦ rest e r t
     ]
 
-pub told_first : (keys : List ℕ) (claims : List Claim) (by : TxnId) (key : ℕ) → Ascends keys → answer keys claims ≡ Waits by key → (claim : Claim) × (claim.txn ≡ by) × IsFirst keys claims claim key
+pub told_first : (keys : List ℕ) (claims : List Claim) (by : TxnId) (key : ℕ) → Ascends keys → answer keys claims ≡ Waits by key → (claim : Claim)
+    × (claim.txn ≡ by) × IsFirst keys claims claim key
 told_first keys [] by key up h = absurd (cc (h))
 told_first keys (c ∷ cs) by key up h = by_common (common_key keys c.keys) refl h (told_first keys cs by key up)
   where
@@ -77,7 +84,8 @@ told_first keys (c ∷ cs) by key up h = by_common (common_key keys c.keys) refl
       least = f.least;
     }
 
-    by_common : (o : Option ℕ) → common_key keys c.keys ≡ o → first_or_got (cons_option (option_map (λ k. Waits c.txn k) o) (filter_map (obstacle keys) cs)) ≡ Waits by key
+    by_common : (o : Option ℕ) → common_key keys c.keys ≡ o → first_or_got (cons_option (option_map (λ k. Waits c.txn k) o) (filter_map (obstacle keys) cs)) ≡
+        Waits by key
         → (answer keys cs ≡ Waits by key → (claim : Claim) × (claim.txn ≡ by) × IsFirst keys cs claim key)
         → (claim : Claim) × (claim.txn ≡ by) × IsFirst keys (c ∷ cs) claim key
     by_common None e g rest = let r = rest g in (r.0, r.1, later r.0 e r.2)
@@ -86,5 +94,6 @@ told_first keys (c ∷ cs) by key up h = by_common (common_key keys c.keys) refl
         let what : k ≡ key = cc (g) in
         (c, who, here k e what)
 
-pub answers_first : (keys : List ℕ) (claims : List Claim) (by : TxnId) (key : ℕ) → IsStrictlyIncreasing keys → answer keys claims ≡ Waits by key → (claim : Claim) × (claim.txn ≡ by) × IsFirst keys claims claim key
+pub answers_first : (keys : List ℕ) (claims : List Claim) (by : TxnId) (key : ℕ) → IsStrictlyIncreasing keys → answer keys claims ≡ Waits by key
+    → (claim : Claim) × (claim.txn ≡ by) × IsFirst keys claims claim key
 answers_first keys claims by key up h = told_first keys claims by key (ascends_from keys up) h

@@ -32,7 +32,8 @@ was_ahead locks claim calls on holder holds share =
     } in
     let last = run_kept Was Was claim (λ c w _. w) locks calls on kept in
     let end = (after_all locks calls).holders in
-    in_contains holder (ahead claim.txn locks) (each_at (λ c. Share claim c → In c (ahead claim.txn locks)) holder end (in_from holder end holds.0 holds.1 holds.2) last.holders share)
+    in_contains holder (ahead claim.txn locks) (each_at (λ c. Share claim c → In c (ahead claim.txn locks)) holder end
+    (in_from holder end holds.0 holds.1 holds.2) last.holders share)
 
 -- a session with a holder has no waiter
 holds_or_waits : (locks : Locks) → Reached locks → (x y : Claim) → In x locks.holders → In y locks.waiters → x.txn.session ≡ y.txn.session → ⊥
@@ -45,18 +46,21 @@ holds_or_waits locks r x y m n e =
     omega arith
 
 pub never_before : (locks : Locks) → Reached locks → (earlier later : Claim) → IsWaiting locks earlier → IsWaiting locks later
-    → Contains (before later.txn locks.waiters) earlier → Share earlier later → (calls : List Call) → WaitsOn locks calls earlier → Contains (after_all locks calls).holders later → ⊥
+    → Contains (before later.txn locks.waiters) earlier → Share earlier later → (calls : List Call) → WaitsOn locks calls earlier
+    → Contains (after_all locks calls).holders later → ⊥
 never_before locks r earlier later w v front share calls on holds =
     let Other : Claim → Type 0 = λ c. c ≡ later → ⊥ in
     let there : In later locks.waiters = found_in (is_of later.txn) later locks.waiters v in
     let before_later : In earlier (before later.txn locks.waiters) = in_from earlier (before later.txn locks.waiters) front.0 front.1 front.2 in
     let kept : Kept Other Other earlier locks = record {
-      holders = each_from (λ c. Share earlier c → c ≡ later → ⊥) locks.holders (λ c m _ e. holds_or_waits locks r c later m there (ap (λ (x : Claim). x.txn.session) e));
+      holders = each_from (λ c. Share earlier c → c ≡ later → ⊥) locks.holders
+          (λ c m _ e. holds_or_waits locks r c later m there (ap (λ (x : Claim). x.txn.session) e));
       front = each_from (λ c. c ≡ later → ⊥) (before earlier.txn locks.waiters)
           (λ c m e. not_both_in_front later earlier locks.waiters (subst (λ (x : Claim). In x (before earlier.txn locks.waiters)) e m) before_later);
     } in
     let last = run_kept Other Other earlier (λ c o _. o) locks calls on kept in
-    each_at (λ c. Share earlier c → c ≡ later → ⊥) later (after_all locks calls).holders (in_from later (after_all locks calls).holders holds.0 holds.1 holds.2) last.holders share refl
+    each_at (λ c. Share earlier c → c ≡ later → ⊥) later (after_all locks calls).holders (in_from later (after_all locks calls).holders holds.0 holds.1 holds.2)
+    last.holders share refl
 
 -- ---- the first waiter
 
@@ -87,9 +91,12 @@ first_served locks first rest q calls on given =
     let free : Each (λ c. common_key first.keys c.keys ≡ None) end.holders =
     each_from (λ c. common_key first.keys c.keys ≡ None) end.holders (λ c m. none c (common_key first.keys c.keys) refl
     (λ share. given c (each_at (λ x. Share first x → Contains locks.holders x) c end.holders m last.holders share) (in_contains c end.holders m))) in
-    let front : Each (λ c. common_key first.keys c.keys ≡ None) (before first.txn end.waiters) = each_map (λ c. ⊥) (λ c. common_key first.keys c.keys ≡ None) (λ c o. absurd o) (before first.txn end.waiters) last.front in
-    ap (λ (o : Option Claim). answer (unwrap_or (option_map (λ c. c.keys) o) []) (end.holders ++ before first.txn end.waiters)) (waits_last locks calls first on)
-    ∙ got_where_none first.keys (end.holders ++ before first.txn end.waiters) (each_both (λ c. common_key first.keys c.keys ≡ None) end.holders (before first.txn end.waiters) free front)
+    let front : Each (λ c. common_key first.keys c.keys ≡ None) (before first.txn end.waiters) =
+    each_map (λ c. ⊥) (λ c. common_key first.keys c.keys ≡ None) (λ c o. absurd o) (before first.txn end.waiters) last.front in
+    ap (λ (o : Option Claim). answer (unwrap_or (option_map (λ c. c.keys) o) []) (end.holders ++ before first.txn end.waiters))
+    (waits_last locks calls first on)
+    ∙ got_where_none first.keys (end.holders ++ before first.txn end.waiters)
+    (each_both (λ c. common_key first.keys c.keys ≡ None) end.holders (before first.txn end.waiters) free front)
   where
     none : (c : Claim) (o : Option ℕ) → common_key first.keys c.keys ≡ o → (Share first c → ⊥) → common_key first.keys c.keys ≡ None
     none c None e no_share = e
@@ -101,7 +108,8 @@ removed : List Claim → List Claim → List Claim
 removed [] cs = cs
 removed (x ∷ xs) cs = removed xs (without x.txn cs)
 
-given_all : (xs holders waiters : List Claim) → after_all (record { holders = holders; waiters = waiters }) (map (λ (x : Claim). GiveBack x.txn) xs) ≡ record { holders = removed xs holders; waiters = removed xs waiters }
+given_all : (xs holders waiters : List Claim) → after_all (record { holders = holders; waiters = waiters }) (map (λ (x : Claim). GiveBack x.txn) xs) ≡ record
+    { holders = removed xs holders; waiters = removed xs waiters }
 unfolding removed
 given_all [] holders waiters = refl
 given_all (x ∷ xs) holders waiters = given_all xs (without x.txn holders) (without x.txn waiters)
@@ -130,12 +138,18 @@ all_left [] cs h = refl
 all_left (x ∷ xs) cs h =
     ap (λ (ds : List Claim). removed xs ds) (filter_keeps (is_of x.txn) cs (count_none (is_of x.txn) cs h.0)) ∙ all_left xs cs h.1
 
-pub emptied : (locks : Locks) → Reached locks → after_all locks (map (λ (holder : Claim). GiveBack holder.txn) locks.holders) ≡ record { holders = []; waiters = locks.waiters }
+pub emptied : (locks : Locks) → Reached locks → after_all locks (map (λ (holder : Claim). GiveBack holder.txn) locks.holders) ≡ record {
+  holders = [];
+  waiters =
+      locks.waiters;
+}
 emptied locks r =
     given_all locks.holders locks.holders locks.waiters
-    ∙ ap (λ (hs : List Claim). record { holders = hs; waiters = removed locks.holders locks.waiters }) (none_left locks.holders locks.holders (each_from (λ c. In c locks.holders) locks.holders (λ c m. m)))
+    ∙ ap (λ (hs : List Claim). record { holders = hs; waiters = removed locks.holders locks.waiters })
+    (none_left locks.holders locks.holders (each_from (λ c. In c locks.holders) locks.holders (λ c m. m)))
     ∙ ap (λ (ws : List Claim). record { holders = []; waiters = ws }) (all_left locks.holders locks.waiters
-    (each_from (λ x. Each (λ c. is_of x.txn c ≡ false) locks.waiters) locks.holders (λ x m. each_from (λ c. is_of x.txn c ≡ false) locks.waiters (λ c n. other x c m n (is_of x.txn c) refl))))
+    (each_from (λ x. Each (λ c. is_of x.txn c ≡ false) locks.waiters) locks.holders
+    (λ x m. each_from (λ c. is_of x.txn c ≡ false) locks.waiters (λ c n. other x c m n (is_of x.txn c) refl))))
   where
     other : (x c : Claim) → In x locks.holders → In c locks.waiters → (b : Bool) → is_of x.txn c ≡ b → is_of x.txn c ≡ false
     other x c m n true e = absurd (holds_or_waits locks r x c m n (ap (λ (t : TxnId). t.session) (sym (txn_same c.txn x.txn e))))

@@ -1,5 +1,6 @@
 -- What stands in a list, and in front of what.
-use Rattle.std.proofs.Common.{ℕ, zero, suc, ◌<◌, ◌≤◌, ◌≡◌, Bool, true, false, ◌==◌, not, cond, List, [], ◌∷◌, ◌++◌, length, get_or, Some, None, refl, sym, ap, ◌∙◌, subst, arith, inl, inr, ◌⊎◌}
+use Rattle.std.proofs.Common.{ℕ, zero, suc, ◌<◌, ◌≤◌, ◌≡◌, Bool, true, false, ◌==◌, not, cond, List, [], ◌∷◌, ◌++◌, length, get_or, Some, None, refl, sym, ap}
+use Rattle.std.proofs.Common.{◌∙◌, subst, arith, inl, inr, ◌⊎◌}
 use Rattle.std.proofs.lemmas.Bool.{and_from, eq-eqb, false≢true}
 use Rattle.std.specs.List.{AllByRecursion as Each, Contains}
 use Rattle.std.specs.Prelude.{find}
@@ -119,7 +120,8 @@ gone txn [] = refl
 gone txn (claim ∷ claims) = without_step txn claim claims (is_of txn claim) refl (gone txn claims)
 
 -- what is in front of another stays in front of it, or goes
-pub before_without : (R : Claim → Type 0) (a t : TxnId) → same_txn a t ≡ false → (claims : List Claim) → Each R (before a claims) → Each R (before a (without t claims))
+pub before_without : (R : Claim → Type 0) (a t : TxnId) → same_txn a t ≡ false → (claims : List Claim) → Each R (before a claims)
+    → Each R (before a (without t claims))
 before_without R a t n [] h = tt
 before_without R a t n (c ∷ cs) h = by_tests (is_of a c) (is_of t c) refl refl h (before_without R a t n cs)
   where

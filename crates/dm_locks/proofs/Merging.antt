@@ -81,7 +81,9 @@ pub at_less : (keys others : List ℕ) (i j : ℕ) → IsStrictlyIncreasing othe
     → common_key (drop (i + 1) keys) (drop j others) ≡ common_key (drop i keys) (drop j others)
 at_less keys others i j h l m n =
     subst (λ (os : List ℕ). Ascends os → common_key (drop (i + 1) keys) os ≡ common_key (drop i keys) os) (sym (drop_more others j 0 m))
-    (subst (λ (ks : List ℕ). Ascends (get_or others j 0 ∷ drop (j + 1) others) → common_key (drop (i + 1) keys) (get_or others j 0 ∷ drop (j + 1) others) ≡ common_key ks (get_or others j 0 ∷ drop (j + 1) others)) (sym (drop_more keys i 0 l))
+    (subst (λ (ks : List ℕ). Ascends (get_or others j 0 ∷ drop (j + 1) others)
+    → common_key (drop (i + 1) keys) (get_or others j 0 ∷ drop (j + 1) others) ≡ common_key ks (get_or others j 0 ∷ drop (j + 1) others))
+    (sym (drop_more keys i 0 l))
     (λ up. less (get_or keys i 0) (get_or others j 0) (drop (i + 1) keys) (drop (j + 1) others) up n))
     (ascends_drop j others (ascends_from others h))
 

@@ -26,7 +26,8 @@ pub record Kept (Q R : Claim → Type 0) (claim : Claim) (locks : Locks) : Type 
 -- who is answered Got shares no key with one that it is answered for
 shares_none : (asker claim : Claim) (claims : List Claim) → answer asker.keys claims ≡ Got → In claim claims → Share claim asker → ⊥
 shares_none asker claim claims got there share =
-    no_common asker.keys claim.keys (each_at (λ other. common_key asker.keys other.keys ≡ None) claim claims there (got_shares_none asker.keys claims got)) share.0 share.2 share.1
+    no_common asker.keys claim.keys (each_at (λ other. common_key asker.keys other.keys ≡ None) claim claims there (got_shares_none asker.keys claims got))
+    share.0 share.2 share.1
 
 asked_kept : (Q R : Claim → Type 0) (claim asker : Claim) (locks : Locks) → IsWaiting locks claim → Kept Q R claim locks → Kept Q R claim (asked locks asker)
 asked_kept Q R claim asker locks waits h = by_answer (is_got (answer asker.keys (everyone locks))) refl
@@ -50,7 +51,8 @@ asked_kept Q R claim asker locks waits h = by_answer (is_got (answer asker.keys 
 still : (txn : TxnId) (claim : Claim) (claims : List Claim) → claim_of claim.txn (without txn claims) ≡ Some claim → same_txn claim.txn txn ≡ false
 still txn claim claims waits = elim (cases_Bool (same_txn claim.txn txn)) [
   | inl same ↦
-      let there : claim_of txn (without txn claims) ≡ Some claim = subst (λ (t : TxnId). claim_of t (without txn claims) ≡ Some claim) (txn_same claim.txn txn same) waits in
+      let there : claim_of txn (without txn claims) ≡ Some claim = subst (λ (t : TxnId). claim_of t (without txn claims) ≡ Some claim)
+      (txn_same claim.txn txn same) waits in
       absurd (let nothing = gone txn claims in cc (nothing, there))
   | inr other ↦ other
 ]
@@ -68,13 +70,15 @@ polled_kept Q R claim txn locks rq waits later h = by_answer (is_got (answer_at_
       | inr n ↦ n
     ]
 
-    passed : (mover : Claim) → claim_of txn locks.waiters ≡ Some mover → answer mover.keys (ahead txn locks) ≡ Got → same_txn claim.txn txn ≡ false → Share claim mover → Q mover
+    passed : (mover : Claim) → claim_of txn locks.waiters ≡ Some mover → answer mover.keys (ahead txn locks) ≡ Got → same_txn claim.txn txn ≡ false
+        → Share claim mover → Q mover
     passed mover found answered other share = elim (one_in_front claim.txn txn claim mover locks.waiters waits found (differs mover found other)) [
       | inl m ↦ rq mover (each_at R mover (before claim.txn locks.waiters) m h.front) share
       | inr m ↦ absurd (shares_none mover claim (ahead txn locks) answered (in_right claim locks.holders (before txn locks.waiters) m) share)
     ]
 
-    moved : (mover : Claim) → claim_of txn locks.waiters ≡ Some mover → answer_at_poll locks txn ≡ Got → IsWaiting (granted locks txn mover) claim → Kept Q R claim (granted locks txn mover)
+    moved : (mover : Claim) → claim_of txn locks.waiters ≡ Some mover → answer_at_poll locks txn ≡ Got → IsWaiting (granted locks txn mover) claim
+        → Kept Q R claim (granted locks txn mover)
     moved mover found got later =
         let other : same_txn claim.txn txn ≡ false = still txn claim locks.waiters later in
         let keys : keys_of txn locks.waiters ≡ mover.keys = ap (λ (o : Option Claim). unwrap_or (option_map (λ c. c.keys) o) []) found in
@@ -90,7 +94,8 @@ polled_kept Q R claim txn locks rq waits later h = by_answer (is_got (answer_at_
     by_claim None found got later = h
     by_claim (Some mover) found got later = moved mover found got later
 
-    by_answer : (b : Bool) → is_got (answer_at_poll locks txn) ≡ b → IsWaiting (if b then unwrap_or (option_map (granted locks txn) (claim_of txn locks.waiters)) locks else locks) claim
+    by_answer : (b : Bool) → is_got (answer_at_poll locks txn) ≡ b → IsWaiting (if b
+        then unwrap_or (option_map (granted locks txn) (claim_of txn locks.waiters)) locks else locks) claim
         → Kept Q R claim (if b then unwrap_or (option_map (granted locks txn) (claim_of txn locks.waiters)) locks else locks)
     by_answer true e later = by_claim (claim_of txn locks.waiters) refl (got_from (answer_at_poll locks txn) e) later
     by_answer false e later = h

@@ -1,5 +1,6 @@
 -- Where the first that passes a test stands, and the list without it.
-use Rattle.std.proofs.Common.{ℕ, suc, ◌+◌, ◌<◌, ◌≤◌, ◌≡◌, Bool, true, false, not, cond, List, [], ◌∷◌, ◌++◌, length, get_or, take, Some, refl, sym, ap, ◌∙◌, arith}
+use Rattle.std.proofs.Common.{ℕ, suc, ◌+◌, ◌<◌, ◌≤◌, ◌≡◌, Bool, true, false, not, cond, List, [], ◌∷◌, ◌++◌, length, get_or, take, Some, refl, sym, ap, ◌∙◌}
+use Rattle.std.proofs.Common.{arith}
 use Rattle.std.specs.List.{filter, list_any, remove, position_or_len}
 use Rattle.std.specs.Prelude.{find, Option, None, IsSome, option_map, unwrap_or, if◌then◌else◌, ◌||◌}
 use Rattle.dm_event.specs.declared.step.TxnId.{TxnId}
@@ -15,7 +16,8 @@ pub place_within : {X : Type 0} (p : X → Bool) (x : X) (xs : List X) → find 
 place_within p x [] h = absurd (cc (h))
 place_within p x (y ∷ ys) h = step (p y) h (place_within p x ys)
   where
-    step : (b : Bool) → cond b (Some y) (find p ys) ≡ Some x → (find p ys ≡ Some x → position_or_len p ys < length ys) → cond (not b) (1 + position_or_len p ys) 0 < length (y ∷ ys)
+    step : (b : Bool) → cond b (Some y) (find p ys) ≡ Some x → (find p ys ≡ Some x → position_or_len p ys < length ys)
+        → cond (not b) (1 + position_or_len p ys) 0 < length (y ∷ ys)
     step true e rest = omega arith
     step false e rest = let l = rest e in omega arith
 
@@ -23,7 +25,8 @@ pub place_at : {X : Type 0} (p : X → Bool) (x d : X) (xs : List X) → find p 
 place_at p x d [] h = absurd (cc (h))
 place_at p x d (y ∷ ys) h = step (p y) h (place_at p x d ys)
   where
-    step : (b : Bool) → cond b (Some y) (find p ys) ≡ Some x → (find p ys ≡ Some x → get_or ys (position_or_len p ys) d ≡ x) → get_or (y ∷ ys) (cond (not b) (1 + position_or_len p ys) 0) d ≡ x
+    step : (b : Bool) → cond b (Some y) (find p ys) ≡ Some x → (find p ys ≡ Some x → get_or ys (position_or_len p ys) d ≡ x)
+        → get_or (y ∷ ys) (cond (not b) (1 + position_or_len p ys) 0) d ≡ x
     step true e rest = cc (e)
     step false e rest = let more : 1 + position_or_len p ys ≡ suc (position_or_len p ys) = omega arith in ap (λ (n : ℕ). get_or (y ∷ ys) n d) more ∙ rest e
 
@@ -31,7 +34,8 @@ pub take_before : (txn : TxnId) (claims : List Claim) → take (position_or_len 
 take_before txn [] = refl
 take_before txn (claim ∷ claims) = step (take_before txn claims) (is_of txn claim)
   where
-    step : take (position_or_len (is_of txn) claims) claims ≡ before txn claims → (b : Bool) → take (cond (not b) (1 + position_or_len (is_of txn) claims) 0) (claim ∷ claims) ≡ cond b [] (claim ∷ before txn claims)
+    step : take (position_or_len (is_of txn) claims) claims ≡ before txn claims → (b : Bool)
+        → take (cond (not b) (1 + position_or_len (is_of txn) claims) 0) (claim ∷ claims) ≡ cond b [] (claim ∷ before txn claims)
     step rest true = refl
     step rest false =
         let more : 1 + position_or_len (is_of txn) claims ≡ suc (position_or_len (is_of txn) claims) = omega arith in
@@ -52,11 +56,13 @@ filter_keeps p (x ∷ xs) h =
     counted false e = e
 
 -- to remove the only one that passes is to keep the others
-pub remove_only : {X : Type 0} (p : X → Bool) (x : X) (xs : List X) → find p xs ≡ Some x → count_of p xs ≤ 1 → remove xs (position_or_len p xs) ≡ filter (λ y. not (p y)) xs
+pub remove_only : {X : Type 0} (p : X → Bool) (x : X) (xs : List X) → find p xs ≡ Some x → count_of p xs ≤ 1
+    → remove xs (position_or_len p xs) ≡ filter (λ y. not (p y)) xs
 remove_only p x [] h once = absurd (cc (h))
 remove_only p x (y ∷ ys) h once = step (p y) h once (remove_only p x ys)
   where
-    step : (b : Bool) → cond b (Some y) (find p ys) ≡ Some x → cond b (suc (count_of p ys)) (count_of p ys) ≤ 1 → (find p ys ≡ Some x → count_of p ys ≤ 1 → remove ys (position_or_len p ys) ≡ filter (λ z. not (p z)) ys)
+    step : (b : Bool) → cond b (Some y) (find p ys) ≡ Some x → cond b (suc (count_of p ys)) (count_of p ys) ≤ 1
+        → (find p ys ≡ Some x → count_of p ys ≤ 1 → remove ys (position_or_len p ys) ≡ filter (λ z. not (p z)) ys)
         → remove (y ∷ ys) (cond (not b) (1 + position_or_len p ys) 0) ≡ cond (not b) (y ∷ filter (λ z. not (p z)) ys) (filter (λ z. not (p z)) ys)
     step true e c rest = sym (filter_keeps p ys (omega arith))
     step false e c rest =
@@ -76,7 +82,8 @@ any_found p (x ∷ xs) h = by_test (p x) h (any_found p xs)
     by_test false e rest = rest e
 
 -- what the waiter at its place is answered
-pub answered_at : (txn : TxnId) (claim : Claim) (holders waiters : List Claim) (at : ℕ) (keys : List ℕ) → claim_of txn waiters ≡ Some claim → at ≡ position_or_len (is_of txn) waiters → keys ≡ claim.keys
+pub answered_at : (txn : TxnId) (claim : Claim) (holders waiters : List Claim) (at : ℕ) (keys : List ℕ) → claim_of txn waiters ≡ Some claim
+    → at ≡ position_or_len (is_of txn) waiters → keys ≡ claim.keys
     → answer keys (holders ++ take at waiters) ≡ answer_at_poll (record { holders = holders; waiters = waiters }) txn
 answered_at txn claim holders waiters at keys found place same =
     ap (λ (n : ℕ). answer keys (holders ++ take n waiters)) place

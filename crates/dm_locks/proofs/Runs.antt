@@ -26,11 +26,13 @@ asked_sound locks claim h may = by_answer (is_got (answer claim.keys (everyone l
 polled_sound : (locks : Locks) (txn : TxnId) → Sound locks → Sound (polled locks txn)
 polled_sound locks txn h = by_answer (is_got (answer_at_poll locks txn)) refl
   where
-    by_claim : (o : Option Claim) → claim_of txn locks.waiters ≡ o → is_got (answer_at_poll locks txn) ≡ true → Sound (unwrap_or (option_map (granted locks txn) o) locks)
+    by_claim : (o : Option Claim) → claim_of txn locks.waiters ≡ o → is_got (answer_at_poll locks txn) ≡ true
+        → Sound (unwrap_or (option_map (granted locks txn) o) locks)
     by_claim None q e = h
     by_claim (Some claim) q e = got_moves txn claim locks.holders locks.waiters h q (got_from (answer_at_poll locks txn) e)
 
-    by_answer : (b : Bool) → is_got (answer_at_poll locks txn) ≡ b → Sound (if b then unwrap_or (option_map (granted locks txn) (claim_of txn locks.waiters)) locks else locks)
+    by_answer : (b : Bool) → is_got (answer_at_poll locks txn) ≡ b → Sound (if b
+        then unwrap_or (option_map (granted locks txn) (claim_of txn locks.waiters)) locks else locks)
     by_answer true e = by_claim (claim_of txn locks.waiters) refl e
     by_answer false e = h
 

@@ -1,5 +1,6 @@
 -- Every call keeps a table sound.
-use Rattle.std.proofs.Common.{ℕ, suc, ◌+◌, ◌≤◌, ◌≡◌, Bool, true, false, ◌==◌, not, cond, List, [], ◌∷◌, ◌++◌, get_or, length, Some, None, refl, sym, subst, ap, ◌∙◌, arith}
+use Rattle.std.proofs.Common.{ℕ, suc, ◌+◌, ◌≤◌, ◌≡◌, Bool, true, false, ◌==◌, not, cond, List, [], ◌∷◌, ◌++◌, get_or, length, Some, None, refl, sym, subst, ap}
+use Rattle.std.proofs.Common.{◌∙◌, arith}
 use Rattle.std.proofs.lemmas.Bool.{and_parts, eqb-true}
 use Rattle.std.proofs.lemmas.List.{length-append}
 use Rattle.std.specs.List.{AllByRecursion as Each, filter, position_or_len, remove}
@@ -39,7 +40,8 @@ one_more p x n l z = by_test (p x) z
 -- ---- a claim more
 
 -- a holder that shares no key with the others
-pub apart_more : (claim : Claim) (holders : List Claim) → ((key : ℕ) → count_of (has_key key) holders ≤ 1) → Each (λ other. common_key claim.keys other.keys ≡ None) holders
+pub apart_more : (claim : Claim) (holders : List Claim) → ((key : ℕ) → count_of (has_key key) holders ≤ 1)
+    → Each (λ other. common_key claim.keys other.keys ≡ None) holders
     → (key : ℕ) → count_of (has_key key) (holders ++ claim ∷ []) ≤ 1
 apart_more claim holders h none key =
     let e = count-append (has_key key) holders (claim ∷ []) in
@@ -48,11 +50,13 @@ apart_more claim holders h none key =
     (λ other n. absent other (is_among other.keys key) refl m n) holders none)) in
     omega arith
   where
-    absent : (other : Claim) (b : Bool) → is_among other.keys key ≡ b → has_key key claim ≡ true → common_key claim.keys other.keys ≡ None → is_among other.keys key ≡ false
+    absent : (other : Claim) (b : Bool) → is_among other.keys key ≡ b → has_key key claim ≡ true → common_key claim.keys other.keys ≡ None
+        → is_among other.keys key ≡ false
     absent other true e m n = absurd (no_common claim.keys other.keys n key m e)
     absent other false e m n = e
 
-session_more : (claim : Claim) (n : ℕ → ℕ) → ((session : ℕ) → n session ≤ 1) → n claim.txn.session ≡ 0 → (session : ℕ) → n session + count_of (is_of_session session) (claim ∷ []) ≤ 1
+session_more : (claim : Claim) (n : ℕ → ℕ) → ((session : ℕ) → n session ≤ 1) → n claim.txn.session ≡ 0 → (session : ℕ)
+    → n session + count_of (is_of_session session) (claim ∷ []) ≤ 1
 session_more claim n h z session =
     one_more (is_of_session session) claim (n session) (h session) (λ m. ap n (sym (eqb-true claim.txn.session session m)) ∙ z)
 
@@ -76,7 +80,8 @@ pub got_holds : (claim : Claim) (holders waiters : List Claim) → Sound (record
     → count_of (is_of_session claim.txn.session) (holders ++ waiters) ≡ 0 → answer claim.keys (holders ++ waiters) ≡ Got
     → Sound (record { holders = holders ++ claim ∷ []; waiters = waiters })
 got_holds claim holders waiters h r z got =
-    holds_more claim holders waiters h r z (each_parts (λ other. common_key claim.keys other.keys ≡ None) holders waiters (got_shares_none claim.keys (holders ++ waiters) got)).0
+    holds_more claim holders waiters h r z (each_parts (λ other. common_key claim.keys other.keys ≡ None) holders waiters
+    (got_shares_none claim.keys (holders ++ waiters) got)).0
 
 pub waits_more : (claim : Claim) (holders waiters : List Claim) → Sound (record { holders = holders; waiters = waiters }) → InRange claim
     → count_of (is_of_session claim.txn.session) (holders ++ waiters) ≡ 0
@@ -102,7 +107,8 @@ gives_back txn holders waiters h =
     let p = each_parts InRange holders waiters h.in_range in
     let others = λ (claim : Claim). not (is_of txn claim) in
     record {
-      in_range = each_both InRange (without txn holders) (without txn waiters) (each_filter InRange others holders p.0) (each_filter InRange others waiters p.1);
+      in_range = each_both InRange (without txn holders) (without txn waiters) (each_filter InRange others holders p.0)
+          (each_filter InRange others waiters p.1);
       one_claim = λ session.
           let a = count-append (is_of_session session) (without txn holders) (without txn waiters) in
           let c = count-append (is_of_session session) holders waiters in
@@ -120,7 +126,8 @@ gives_back txn holders waiters h =
 
 taken_step : (p q : Claim → Bool) (claim other : Claim) (claims : List Claim) (b : Bool) → cond b (Some other) (find q claims) ≡ Some claim
     → (find q claims ≡ Some claim → count_of p (filter (λ c. not (q c)) claims) + count_of p (claim ∷ []) ≤ count_of p claims)
-    → count_of p (cond (not b) (other ∷ filter (λ c. not (q c)) claims) (filter (λ c. not (q c)) claims)) + count_of p (claim ∷ []) ≤ count_of p (other ∷ claims)
+    → count_of p (cond (not b) (other ∷ filter (λ c. not (q c)) claims) (filter (λ c. not (q c)) claims)) + count_of p (claim ∷ []) ≤ count_of p
+    (other ∷ claims)
 taken_step p q claim other claims true e rest =
     let same : other ≡ claim = cc (e) in
     let l = count-filter p (λ c. not (q c)) claims in
@@ -134,7 +141,8 @@ taken_step p q claim other claims false e rest =
     omega arith
 
 -- what is taken out was counted
-count_taken : (p q : Claim → Bool) (claim : Claim) (claims : List Claim) → find q claims ≡ Some claim → count_of p (filter (λ c. not (q c)) claims) + count_of p (claim ∷ []) ≤ count_of p claims
+count_taken : (p q : Claim → Bool) (claim : Claim) (claims : List Claim) → find q claims ≡ Some claim
+    → count_of p (filter (λ c. not (q c)) claims) + count_of p (claim ∷ []) ≤ count_of p claims
 count_taken p q claim [] h = absurd (cc (h))
 count_taken p q claim (other ∷ claims) h = taken_step p q claim other claims (q other) h (count_taken p q claim claims)
 
@@ -144,7 +152,8 @@ pub moves : (txn : TxnId) (claim : Claim) (holders waiters : List Claim) → Sou
 moves txn claim holders waiters h found none =
     let p = each_parts InRange holders waiters h.in_range in
     record {
-      in_range = each_both InRange (holders ++ claim ∷ []) (without txn waiters) (each_both InRange holders (claim ∷ []) p.0 (found_each InRange (is_of txn) waiters claim found p.1, tt))
+      in_range = each_both InRange (holders ++ claim ∷ []) (without txn waiters)
+          (each_both InRange holders (claim ∷ []) p.0 (found_each InRange (is_of txn) waiters claim found p.1, tt))
           (each_filter InRange (λ c. not (is_of txn c)) waiters p.1);
       one_claim = λ session.
           let a = count-append (is_of_session session) (holders ++ claim ∷ []) (without txn waiters) in
@@ -171,23 +180,28 @@ pub got_moves : (txn : TxnId) (claim : Claim) (holders waiters : List Claim) →
 got_moves txn claim holders waiters h found got =
     let keys : keys_of txn waiters ≡ claim.keys = ap (λ (o : Option Claim). unwrap_or (option_map (λ c. c.keys) o) []) found in
     let answered : answer claim.keys (holders ++ before txn waiters) ≡ Got = ap (λ (ks : List ℕ). answer ks (holders ++ before txn waiters)) (sym keys) ∙ got in
-    moves txn claim holders waiters h found (each_parts (λ other. common_key claim.keys other.keys ≡ None) holders (before txn waiters) (got_shares_none claim.keys (holders ++ before txn waiters) answered)).0
+    moves txn claim holders waiters h found (each_parts (λ other. common_key claim.keys other.keys ≡ None) holders (before txn waiters)
+    (got_shares_none claim.keys (holders ++ before txn waiters) answered)).0
 
 -- the lists after it, as a poll makes them
 pub record Moved (txn : TxnId) (holders waiters new_holders new_waiters : List Claim) : Type 0 where
   pub sound : Sound (record { holders = new_holders; waiters = new_waiters })
   pub polled : record { holders = new_holders; waiters = new_waiters } ≡ polled (record { holders = holders; waiters = waiters }) txn
 
-pub moved_by : (txn : TxnId) (mover : Claim) (at : ℕ) (holders waiters new_holders new_waiters : List Claim) → Sound (record { holders = holders; waiters = waiters })
+pub moved_by : (txn : TxnId) (mover : Claim) (at : ℕ) (holders waiters new_holders new_waiters : List Claim)
+    → Sound (record { holders = holders; waiters = waiters })
     → IsSome (claim_of txn waiters) → answer_at_poll (record { holders = holders; waiters = waiters }) txn ≡ Got → at ≡ position_or_len (is_of txn) waiters
-    → mover ≡ get_or waiters at mover → new_holders ≡ holders ++ mover ∷ [] → new_waiters ≡ remove waiters at → Moved txn holders waiters new_holders new_waiters
+    → mover ≡ get_or waiters at mover → new_holders ≡ holders ++ mover ∷ [] → new_waiters ≡ remove waiters at
+    → Moved txn holders waiters new_holders new_waiters
 moved_by txn mover at holders waiters new_holders new_waiters h waits got place value pushed removed =
     let f = some_of (claim_of txn waiters) waits in
     let taken : mover ≡ f.0 = value ∙ ap (λ (n : ℕ). get_or waiters n mover) place ∙ place_at (is_of txn) f.0 mover waiters f.1 in
-    let left : new_waiters ≡ without txn waiters = removed ∙ ap (λ (n : ℕ). remove waiters n) place ∙ remove_only (is_of txn) f.0 waiters f.1 (one_of_txn txn holders waiters h) in
+    let left : new_waiters ≡ without txn waiters = removed ∙ ap (λ (n : ℕ). remove waiters n) place
+    ∙ remove_only (is_of txn) f.0 waiters f.1 (one_of_txn txn holders waiters h) in
     let more : new_holders ≡ holders ++ f.0 ∷ [] = pushed ∙ ap (λ (x : Claim). holders ++ x ∷ []) taken in
     let locks : record { holders = new_holders; waiters = new_waiters } ≡ record { holders = holders ++ f.0 ∷ []; waiters = without txn waiters } =
-    ap (λ (xs : List Claim). record { holders = xs; waiters = new_waiters }) more ∙ ap (λ (xs : List Claim). record { holders = holders ++ f.0 ∷ []; waiters = xs }) left in
+    ap (λ (xs : List Claim). record { holders = xs; waiters = new_waiters }) more
+    ∙ ap (λ (xs : List Claim). record { holders = holders ++ f.0 ∷ []; waiters = xs }) left in
     record {
       sound = subst (λ (l : Locks). Sound l) (sym locks) (got_moves txn f.0 holders waiters h f.1 got);
       polled = locks ∙ sym (polled_got txn f.0 (record { holders = holders; waiters = waiters }) got f.1);

@@ -1,5 +1,6 @@
 -- How far loads are from even.
-use Rattle.std.proofs.Common.{ℕ, suc, ◌+◌, ◌-◌, ◌*◌, ◌<◌, ◌≤◌, ◌≡◌, ◌≢◌, Bool, true, false, List, length, get_or, set, take, refl, sym, ap, ap₂, ◌∙◌, arith, inl, inr, get_or-set_same, get_or-set_other}
+use Rattle.std.proofs.Common.{ℕ, suc, ◌+◌, ◌-◌, ◌*◌, ◌<◌, ◌≤◌, ◌≡◌, ◌≢◌, Bool, true, false, List, length, get_or, set, take, refl, sym, ap, ap₂, ◌∙◌, arith}
+use Rattle.std.proofs.Common.{inl, inr, get_or-set_same, get_or-set_other}
 use Rattle.std.specs.List.{sum_by, sum}
 use Rattle.std.specs.Prelude.{pos, negsuc, nat_abs, ◌-ℤ◌, ◌==◌, ◌&&◌, not, if◌then◌else◌}
 use Rattle.std.proofs.Math.Nat.{mul-le-mul}
@@ -25,7 +26,8 @@ far_is a b = elim (cases_lt a b) [
 
 pub sum_small : (loads : List ℕ) → length loads ≤ 8 → ((k : ℕ) → get_or loads k 0 ≤ 131072) → sum loads ≤ 1048576
 sum_small loads few small =
-    let each : (k : ℕ) (d : ℕ) → k < length loads → get_or loads k d ≤ 131072 = (λ k d l. let e = get_or_default loads k d 0 l in let h = small k in omega (arith, e, h)) in
+    let each : (k : ℕ) (d : ℕ) → k < length loads → get_or loads k d ≤ 131072 =
+    (λ k d l. let e = get_or_default loads k d 0 l in let h = small k in omega (arith, e, h)) in
     let whole : sum loads ≤ length loads * 131072 = sum_by-le (λ x. x) 131072 loads each in
     omega (arith, whole, few)
 
@@ -35,7 +37,8 @@ far_small n x b few small less =
     omega (arith, product, less)
 
 -- one load more
-pub far_more : (loads : List ℕ) (i so_far far whole : ℕ) → i < length loads → so_far ≡ sum_by (λ x. nat_abs (pos (length loads * x) -ℤ pos (sum loads))) (take i loads) → whole ≡ sum loads
+pub far_more : (loads : List ℕ) (i so_far far whole : ℕ) → i < length loads
+    → so_far ≡ sum_by (λ x. nat_abs (pos (length loads * x) -ℤ pos (sum loads))) (take i loads) → whole ≡ sum loads
     → far ≡ (length loads * get_or loads i 0 - whole) + (whole - length loads * get_or loads i 0)
     → so_far + far ≡ sum_by (λ x. nat_abs (pos (length loads * x) -ℤ pos (sum loads))) (take (i + 1) loads)
 far_more loads i so_far far whole l before total is =
@@ -48,10 +51,12 @@ far_more loads i so_far far whole l before total is =
 -- ---- lists of loads
 
 -- the first components of a list, as they are those of the function
-pub first_loads : (counts : List ℕ) (sites : ℕ) (f : ℕ → ℕ) → sites ≤ length counts → ((site : ℕ) → 1 ≤ site → site ≤ sites → get_or counts (site - 1) 0 ≡ f site) → take sites counts ≡ vector_by sites f
+pub first_loads : (counts : List ℕ) (sites : ℕ) (f : ℕ → ℕ) → sites ≤ length counts
+    → ((site : ℕ) → 1 ≤ site → site ≤ sites → get_or counts (site - 1) 0 ≡ f site) → take sites counts ≡ vector_by sites f
 first_loads counts sites f l h =
     vector_is sites (take sites counts) f (length-take-le sites counts l)
-    (λ k m. get_or-take sites counts k 0 m ∙ ap (λ (i : ℕ). get_or counts i 0) (let e : k ≡ suc k - 1 = omega arith in e) ∙ h (suc k) (omega arith) (omega (arith, m)))
+    (λ k m. get_or-take sites counts k 0 m ∙ ap (λ (i : ℕ). get_or counts i 0) (let e : k ≡ suc k - 1 = omega arith in e)
+    ∙ h (suc k) (omega arith) (omega (arith, m)))
 
 -- what is computed of the list of loads is how uneven they are
 pub uneven_is : (sites parts : ℕ) (sets : List (List ℕ)) (home_of : ℕ → ℕ) (loads : List ℕ) (far : ℕ) → loads ≡ vector_by sites (load sites parts sets home_of)
@@ -65,9 +70,11 @@ uneven_is sites parts sets home_of loads far are is =
     ∙ ap (λ (n : ℕ). sum_by (λ site. nat_abs (pos (sites * ld site) -ℤ pos n)) (sites_to sites)) (sum-map ld (sites_to sites))
 
 -- a partition that is wanted (b) counts at the site, another at its home
-counts_there : (b : Bool) (site home w : ℕ) → ◌≡◌ {A = ℕ} (if (if b then site else home) == site then w else 0) ((if (home == site) && not b then w else 0) + (if b then w else 0))
+counts_there : (b : Bool) (site home w : ℕ) → ◌≡◌ {A = ℕ} (if (if b then site else home) == site then w else 0)
+    ((if (home == site) && not b then w else 0) + (if b then w else 0))
 counts_there true site home w =
-    ap (λ (c : Bool). if c then w else 0) (eq-eqb site site refl) ∙ (let e : w ≡ 0 + w = omega arith in e) ∙ ap (λ (c : Bool). (if c then w else 0) + w) (sym (fails (home == site)))
+    ap (λ (c : Bool). if c then w else 0) (eq-eqb site site refl) ∙ (let e : w ≡ 0 + w = omega arith in e)
+    ∙ ap (λ (c : Bool). (if c then w else 0) + w) (sym (fails (home == site)))
   where
     fails : (c : Bool) → (c && false) ≡ false
     fails true = refl
@@ -80,7 +87,8 @@ counts_there false site home w =
     holds true = refl
     holds false = refl
 
-counts_elsewhere : (b : Bool) (site other home w : ℕ) → site ≢ other → ◌≡◌ {A = ℕ} (if (if b then site else home) == other then w else 0) (if (home == other) && not b then w else 0)
+counts_elsewhere : (b : Bool) (site other home w : ℕ) → site ≢ other → ◌≡◌ {A = ℕ} (if (if b then site else home) == other then w else 0) (if (home == other)
+    && not b then w else 0)
 counts_elsewhere true site other home w d = ap (λ (c : Bool). if c then w else 0) (ne_eqb site other d ∙ sym (fails (home == other)))
   where
     fails : (c : Bool) → (c && false) ≡ false
@@ -94,25 +102,32 @@ counts_elsewhere false site other home w d = ap (λ (c : Bool). if c then w else
 
 module _ (sites parts : ℕ) (sets : List (List ℕ)) (home_of : ℕ → ℕ) (wanted : List ℕ) where
   -- the load of the site to which the wanted partitions go
-  load_there : (site : ℕ) → load sites parts sets (moved_to sites parts sets home_of wanted site) site ≡ other_load parts sets home_of wanted site + wanted_load parts sets wanted
+  load_there : (site : ℕ) → load sites parts sets (moved_to sites parts sets home_of wanted site) site ≡ other_load parts sets home_of wanted site + wanted_load
+      parts sets wanted
   load_there site =
       total_filter (weight sets) (λ p. (if is_among wanted p then site else home_of p) == site) parts
-      ∙ total_split (λ p. if (if is_among wanted p then site else home_of p) == site then weight sets p else 0) (λ p. if (home_of p == site) && not (is_among wanted p) then weight sets p else 0) (λ p. if is_among wanted p then weight sets p else 0) parts
+      ∙ total_split (λ p. if (if is_among wanted p then site else home_of p) == site then weight sets p else 0)
+      (λ p. if (home_of p == site) && not (is_among wanted p) then weight sets p else 0) (λ p. if is_among wanted p then weight sets p else 0) parts
       (λ p. counts_there (is_among wanted p) site (home_of p) (weight sets p))
-      ∙ ap₂ (λ (a b : ℕ). a + b) (sym (total_filter (weight sets) (λ p. (home_of p == site) && not (is_among wanted p)) parts)) (sym (total_filter (weight sets) (is_among wanted) parts))
+      ∙ ap₂ (λ (a b : ℕ). a + b) (sym (total_filter (weight sets) (λ p. (home_of p == site) && not (is_among wanted p)) parts))
+      (sym (total_filter (weight sets) (is_among wanted) parts))
 
   -- the load of another site
-  load_elsewhere : (site other : ℕ) → site ≢ other → load sites parts sets (moved_to sites parts sets home_of wanted site) other ≡ other_load parts sets home_of wanted other
+  load_elsewhere : (site other : ℕ) → site ≢ other → load sites parts sets (moved_to sites parts sets home_of wanted site) other ≡ other_load parts sets home_of
+      wanted other
   load_elsewhere site other d =
       total_filter (weight sets) (λ p. (if is_among wanted p then site else home_of p) == other) parts
-      ∙ same_total (λ p. if (if is_among wanted p then site else home_of p) == other then weight sets p else 0) (λ p. if (home_of p == other) && not (is_among wanted p) then weight sets p else 0) parts
+      ∙ same_total (λ p. if (if is_among wanted p then site else home_of p) == other then weight sets p else 0)
+      (λ p. if (home_of p == other) && not (is_among wanted p) then weight sets p else 0) parts
       (λ p l. counts_elsewhere (is_among wanted p) site other (home_of p) (weight sets p) d)
       ∙ sym (total_filter (weight sets) (λ p. (home_of p == other) && not (is_among wanted p)) parts)
 
   -- what moves is added at its place
   pub moved_loads : (others : List ℕ) (moving site : ℕ) → length others ≡ 8 → 1 ≤ site → site ≤ 8
-      → ((other : ℕ) → 1 ≤ other → other ≤ 8 → get_or others (other - 1) 0 ≡ other_load parts sets home_of wanted other) → moving ≡ wanted_load parts sets wanted
-      → (other : ℕ) → 1 ≤ other → other ≤ 8 → get_or (set others (site - 1) (get_or others (site - 1) 0 + moving)) (other - 1) 0 ≡ load sites parts sets (moved_to sites parts sets home_of wanted site) other
+      → ((other : ℕ) → 1 ≤ other → other ≤ 8 → get_or others (other - 1) 0 ≡ other_load parts sets home_of wanted other)
+      → moving ≡ wanted_load parts sets wanted
+      → (other : ℕ) → 1 ≤ other → other ≤ 8 → get_or (set others (site - 1) (get_or others (site - 1) 0 + moving)) (other - 1) 0 ≡ load sites parts sets
+      (moved_to sites parts sets home_of wanted site) other
   moved_loads others moving site l lo hi are is other a b = elim (cases_eq site other) [
     | inl e ↦
         (let within : site - 1 < length others = omega (arith, l, lo, hi) in

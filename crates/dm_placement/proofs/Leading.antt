@@ -1,5 +1,6 @@
 -- The least site of greatest score.
-use Rattle.std.proofs.Common.{ℕ, zero, suc, ◌+◌, ◌-◌, ◌^◌, ◌<◌, ◌≤◌, ◌≡◌, Bool, true, false, cond, List, get_or, refl, sym, ap, ap₂, ◌∙◌, arith, inl, inr, subst}
+use Rattle.std.proofs.Common.{ℕ, zero, suc, ◌+◌, ◌-◌, ◌^◌, ◌<◌, ◌≤◌, ◌≡◌, Bool, true, false, cond, List, get_or, refl, sym, ap, ap₂, ◌∙◌, arith, inl, inr}
+use Rattle.std.proofs.Common.{subst}
 use Rattle.std.specs.List.{range_with_len}
 use Rattle.std.specs.Prelude.{ℤ, pos, negsuc, nat_abs, ◌<ℤ◌, ◌≤ℤ◌, int_lt, ◌⊎◌}
 use Rattle.std.proofs.lemmas.Bool.{cases_eq}
@@ -58,15 +59,18 @@ leads_lower f a n b r l h = record {
 
 leader : (f : ℕ → ℤ) (a n b r : ℕ) → Leads f a n b r → best_site f (range_with_len a n) b ≡ r
 leader f a zero b r l = elim l.one [ inl e ↦ sym e | inr p ↦ absurd (omega (arith, p)) ]
-leader f a (suc n) b r l = at_head (int_lt (f b) (f a)) refl (λ h. leader f (a + 1) n a r (leads_higher f a n b r l h)) (λ h. leader f (a + 1) n b r (leads_lower f a n b r l h))
+leader f a (suc n) b r l = at_head (int_lt (f b) (f a)) refl (λ h. leader f (a + 1) n a r (leads_higher f a n b r l h))
+    (λ h. leader f (a + 1) n b r (leads_lower f a n b r l h))
   where
-    at_head : (c : Bool) → int_lt (f b) (f a) ≡ c → (f b <ℤ f a → best_site f (range_with_len (a + 1) n) a ≡ r) → (f a ≤ℤ f b → best_site f (range_with_len (a + 1) n) b ≡ r)
+    at_head : (c : Bool) → int_lt (f b) (f a) ≡ c → (f b <ℤ f a → best_site f (range_with_len (a + 1) n) a ≡ r)
+        → (f a ≤ℤ f b → best_site f (range_with_len (a + 1) n) b ≡ r)
         → best_site f (range_with_len (a + 1) n) (cond c a b) ≡ r
     at_head true e higher lower = higher (less (f b) (f a) e)
     at_head false e higher lower = lower (not_less (f b) (f a) e)
 
 -- what is the least site of greatest score is the one chosen
-pub chosen : (f : ℕ → ℤ) (sites r : ℕ) → 1 ≤ r → r ≤ sites → ((s : ℕ) → 1 ≤ s → s ≤ sites → f s ≤ℤ f r) → ((s : ℕ) → 1 ≤ s → s < r → f s <ℤ f r) → best_site f (sites_to sites) 1 ≡ r
+pub chosen : (f : ℕ → ℤ) (sites r : ℕ) → 1 ≤ r → r ≤ sites → ((s : ℕ) → 1 ≤ s → s ≤ sites → f s ≤ℤ f r) → ((s : ℕ) → 1 ≤ s → s < r → f s <ℤ f r)
+    → best_site f (sites_to sites) 1 ≡ r
 chosen f sites r lo hi greatest least = leader f 1 sites 1 r (record {
   one = inr (lo, omega arith);
   greatest = λ s x y. greatest s x (omega (arith, y));
@@ -105,4 +109,5 @@ small_fits (negsuc n) h = omega (arith, ints, h)
 
 pub score_fits : (scores : List ℤ) → ((site : ℕ) → nat_abs (get_or scores (site - 1) (pos 0)) < 2 ^ 99) → (k : ℕ) → SFits w128 (get_or scores k (pos 0))
 score_fits scores small k =
-    subst (λ (i : ℕ). SFits w128 (get_or scores i (pos 0))) (let e : k + 1 - 1 ≡ k = omega arith in e) (small_fits (get_or scores (k + 1 - 1) (pos 0)) (small (k + 1)))
+    subst (λ (i : ℕ). SFits w128 (get_or scores i (pos 0))) (let e : k + 1 - 1 ≡ k = omega arith in e)
+    (small_fits (get_or scores (k + 1 - 1) (pos 0)) (small (k + 1)))

@@ -1,5 +1,6 @@
 -- The list of the partitions of a set: which they are.
-use Rattle.std.proofs.Common.{ℕ, zero, suc, ◌+◌, ◌*◌, ◌/◌, ◌%◌, ◌^◌, ◌<◌, ◌≤◌, ◌≡◌, Bool, true, false, cond, List, [], ◌∷◌, ◌++◌, length, refl, sym, ap, ap₂, ◌∙◌, arith, inl, inr}
+use Rattle.std.proofs.Common.{ℕ, zero, suc, ◌+◌, ◌*◌, ◌/◌, ◌%◌, ◌^◌, ◌<◌, ◌≤◌, ◌≡◌, Bool, true, false, cond, List, [], ◌∷◌, ◌++◌, length, refl, sym, ap, ap₂}
+use Rattle.std.proofs.Common.{◌∙◌, arith, inl, inr}
 use Rattle.std.specs.List.{range_with_len, filter, count_by}
 use Rattle.std.specs.Prelude.{◌&&◌, ◌||◌, ◌==◌, map}
 use Rattle.std.specs.Int.{bit_at}
@@ -47,7 +48,8 @@ among_filter t (x ∷ xs) p =
         let fails : t p ≡ false = sym (ap t e) ∙ q in
         rest ∙ ap (λ (c : Bool). is_among xs p && c) fails ∙ fails_all (is_among xs p) ∙ sym fails
 
-    there : is_among (filter t xs) p ≡ (is_among xs p && t p) → (b : Bool) → (x ≡ p → ⊥) → is_among (cond b (x ∷ filter t xs) (filter t xs)) p ≡ (is_among xs p && t p)
+    there : is_among (filter t xs) p ≡ (is_among xs p && t p) → (b : Bool) → (x ≡ p → ⊥)
+        → is_among (cond b (x ∷ filter t xs) (filter t xs)) p ≡ (is_among xs p && t p)
     there rest true d = ap (λ (c : Bool). c || is_among (filter t xs) p) (ne_eqb x p d) ∙ rest
     there rest false d = rest
 
@@ -69,10 +71,12 @@ among_parts words p =
 pub weight_is : (window : List (List ℕ)) (p : ℕ) → weight (map parts_in window) p ≡ count_by (λ set. has_part set p) window
 weight_is window p =
     sum_map (λ (set : List ℕ). cond (is_among set p) 1 0) parts_in window
-    ∙ sum_same (λ (set : List ℕ). cond (is_among (parts_in set) p) 1 0) (λ (set : List ℕ). cond (has_part set p) 1 0) window (λ set. ap (λ (b : Bool). cond b 1 0) (among_parts set p))
+    ∙ sum_same (λ (set : List ℕ). cond (is_among (parts_in set) p) 1 0) (λ (set : List ℕ). cond (has_part set p) 1 0) window
+    (λ set. ap (λ (b : Bool). cond b 1 0) (among_parts set p))
 
 -- the same, where the window lies in two parts
-pub weight_of_parts : (older newer window : List (List ℕ)) (p a b : ℕ) → older ++ newer ≡ window → a ≡ count_by (λ set. has_part set p) older → b ≡ count_by (λ set. has_part set p) newer
+pub weight_of_parts : (older newer window : List (List ℕ)) (p a b : ℕ) → older ++ newer ≡ window → a ≡ count_by (λ set. has_part set p) older
+    → b ≡ count_by (λ set. has_part set p) newer
     → a + b ≡ weight (map parts_in window) p
 weight_of_parts older newer window p a b parts is is' =
     ap₂ (λ (x y : ℕ). x + y) is is'

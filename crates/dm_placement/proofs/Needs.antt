@@ -1,5 +1,6 @@
 -- What the homes of wanted partitions have, and what a site lacks of it.
-use Rattle.std.proofs.Common.{ℕ, zero, suc, ◌+◌, ◌-◌, ◌*◌, ◌<◌, ◌≤◌, ◌≡◌, Bool, true, false, cond, List, [], ◌∷◌, ◌++◌, length, get_or, refl, sym, ap, ◌∙◌, arith, add-one, max}
+use Rattle.std.proofs.Common.{ℕ, zero, suc, ◌+◌, ◌-◌, ◌*◌, ◌<◌, ◌≤◌, ◌≡◌, Bool, true, false, cond, List, [], ◌∷◌, ◌++◌, length, get_or, refl, sym, ap, ◌∙◌}
+use Rattle.std.proofs.Common.{arith, add-one, max}
 use Rattle.std.specs.List.{range_with_len, filter, sum_by}
 use Rattle.std.specs.Prelude.{map, replicate}
 use Rattle.std.proofs.lemmas.List.{map-append, append-nil}
@@ -31,7 +32,8 @@ join_push count vs v l =
     (long_join (join_all count vs) v (long_by count _ ∙ sym l) ∙ long_by count _)
     (λ k m.
     let one : get_or (join (join_all count vs) v) k 0 ≡ max (get_or (join_all count vs) k 0) (get_or v k 0) = at_join (join_all count vs) v k in
-    let two : get_or (join_all count vs) k 0 ≡ greatest (map (λ w. at w (suc k)) vs) = at_by count (λ site. greatest (map (λ w. at w site) vs)) (suc k) (omega arith) (omega (arith, m)) in
+    let two : get_or (join_all count vs) k 0 ≡ greatest (map (λ w. at w (suc k)) vs) =
+    at_by count (λ site. greatest (map (λ w. at w site) vs)) (suc k) (omega arith) (omega (arith, m)) in
     one ∙ ap (λ (n : ℕ). max n (get_or v k 0)) two ∙ sym (greatest_push (map (λ w. at w (suc k)) vs) (get_or v k 0))
     ∙ ap greatest (sym (map-append (λ w. at w (suc k)) vs (v ∷ []))))
 
@@ -45,7 +47,8 @@ filter_more t n b e =
     ∙ ap (λ (k : ℕ). filter t (range_with_len 0 n) ++ cond (t k) (k ∷ []) []) (let z : 0 + n ≡ n = omega arith in z)
     ∙ ap (λ (c : Bool). filter t (range_with_len 0 n) ++ cond c (n ∷ []) []) e
 
-pub need_add : (count : ℕ) (t : ℕ → Bool) (g : ℕ → List ℕ) (n : ℕ) (need v : List ℕ) → need ≡ join_all count (map g (filter t (range_with_len 0 n))) → t n ≡ true → v ≡ g n → length v ≡ count
+pub need_add : (count : ℕ) (t : ℕ → Bool) (g : ℕ → List ℕ) (n : ℕ) (need v : List ℕ) → need ≡ join_all count (map g (filter t (range_with_len 0 n)))
+    → t n ≡ true → v ≡ g n → length v ≡ count
     → join need v ≡ join_all count (map g (filter t (range_with_len 0 (n + 1))))
 need_add count t g n need v before passes is l =
     ap (λ (u : List ℕ). join u v) before
@@ -54,7 +57,8 @@ need_add count t g n need v before passes is l =
     ∙ ap (join_all count) (sym (map-append g (filter t (range_with_len 0 n)) (n ∷ [])))
     ∙ ap (λ (xs : List ℕ). join_all count (map g xs)) (sym (filter_more t n true passes))
 
-pub need_skip : (count : ℕ) (t : ℕ → Bool) (g : ℕ → List ℕ) (n : ℕ) (need : List ℕ) → need ≡ join_all count (map g (filter t (range_with_len 0 n))) → t n ≡ false
+pub need_skip : (count : ℕ) (t : ℕ → Bool) (g : ℕ → List ℕ) (n : ℕ) (need : List ℕ) → need ≡ join_all count (map g (filter t (range_with_len 0 n)))
+    → t n ≡ false
     → need ≡ join_all count (map g (filter t (range_with_len 0 (n + 1))))
 need_skip count t g n need before fails =
     before ∙ ap (λ (xs : List ℕ). join_all count (map g xs)) (sym (append-nil (filter t (range_with_len 0 n))) ∙ sym (filter_more t n false fails))
@@ -74,7 +78,8 @@ filter_past t n (suc k) h =
     ∙ filter_past t n k h
 
 -- where a set holds none past the first partitions, they are all
-pub parts_below : (words : List ℕ) (parts : ℕ) → ((p : ℕ) → has_part words p ≡ true → p < parts) → filter (has_part words) (range_with_len 0 parts) ≡ parts_in words
+pub parts_below : (words : List ℕ) (parts : ℕ) → ((p : ℕ) → has_part words p ≡ true → p < parts)
+    → filter (has_part words) (range_with_len 0 parts) ≡ parts_in words
 parts_below words parts below =
     sym (filter_past (has_part words) parts (64 * length words) (λ j h. fails j h (has_part words j) refl))
     ∙ ap (λ (m : ℕ). filter (has_part words) (range_with_len 0 m)) (let e : parts + 64 * length words ≡ 64 * length words + parts = omega arith in e)
@@ -94,5 +99,6 @@ sum_sites_more f site h =
     ∙ ap (λ (n : ℕ). sum_by f (sites_to (site - 1)) + f n) (let e : 1 + (site - 1) ≡ site = omega arith in e)
 
 -- one site more
-pub lag_more : (f : ℕ → ℕ) (lag site part : ℕ) → lag ≡ sum_by f (sites_to (site - 1)) → part ≡ f site → 1 ≤ site → lag + part ≡ sum_by f (sites_to (site + 1 - 1))
+pub lag_more : (f : ℕ → ℕ) (lag site part : ℕ) → lag ≡ sum_by f (sites_to (site - 1)) → part ≡ f site → 1 ≤ site
+    → lag + part ≡ sum_by f (sites_to (site + 1 - 1))
 lag_more f lag site part before is h = ap (λ (n : ℕ). n + part) before ∙ ap (λ (n : ℕ). sum_by f (sites_to (site - 1)) + n) is ∙ sym (sum_sites_more f site h)

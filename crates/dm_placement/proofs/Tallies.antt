@@ -1,5 +1,6 @@
 -- Counts for each site, made in one pass over the partitions.
-use Rattle.std.proofs.Common.{ℕ, zero, suc, ◌+◌, ◌-◌, ◌*◌, ◌<◌, ◌≤◌, ◌≡◌, ◌≢◌, Bool, true, false, cond, List, [], ◌∷◌, length, get_or, set, refl, sym, ap, ◌∙◌, arith, inl, inr, get_or-set_same, get_or-set_other}
+use Rattle.std.proofs.Common.{ℕ, zero, suc, ◌+◌, ◌-◌, ◌*◌, ◌<◌, ◌≤◌, ◌≡◌, ◌≢◌, Bool, true, false, cond, List, [], ◌∷◌, length, get_or, set, refl, sym, ap, ◌∙◌}
+use Rattle.std.proofs.Common.{arith, inl, inr, get_or-set_same, get_or-set_other}
 use Rattle.std.specs.List.{range_with_len, filter, count_by, sum_by, list_any}
 use Rattle.std.specs.Prelude.{◌&&◌, ◌||◌, ◌==◌, not, if◌then◌else◌, nat_lt, ◌⊎◌}
 use Rattle.std.proofs.lemmas.Bool.{cases_eq, eq-eqb, ne_eqb, lt-ltb}
@@ -37,7 +38,8 @@ module _ (base : ℕ → ℕ) (q : ℕ → ℕ → Bool) (f : ℕ → ℕ) (coun
   pub tally_none : ((site : ℕ) → 1 ≤ site → site ≤ 8 → get_or counts (site - 1) 0 ≡ base site) → Tallied base q f counts 0
   tally_none h = record { sums = λ site lo hi. let e = h site lo hi in omega (arith, e) }
 
-  one_more : (site : ℕ) (b : Bool) → q site n ≡ b → total (λ p. if q site p then f p else 0) (n + 1) ≡ total (λ p. if q site p then f p else 0) n + (if b then f n else 0)
+  one_more : (site : ℕ) (b : Bool) → q site n ≡ b → total (λ p. if q site p then f p else 0) (n + 1) ≡ total (λ p. if q site p then f p else 0) n + (if b
+      then f n else 0)
   one_more site b e = total_more (λ p. if q site p then f p else 0) n ∙ ap (λ (c : Bool). total (λ p. if q site p then f p else 0) n + (if c then f n else 0)) e
 
   -- a partition with home h is counted there
@@ -45,12 +47,14 @@ module _ (base : ℕ → ℕ) (q : ℕ → ℕ → Bool) (f : ℕ → ℕ) (coun
       → Tallied base q f (set counts (h - 1) (get_or counts (h - 1) 0 + w)) (n + 1)
   tally_add h w t l lo hi test is = record { sums = λ site a b. at_site site a b (cases_eq h site) }
     where
-      at_site : (site : ℕ) → 1 ≤ site → site ≤ 8 → (h ≡ site) ⊎ (h ≡ site → ⊥) → get_or (set counts (h - 1) (get_or counts (h - 1) 0 + w)) (site - 1) 0 ≡ base site + total (λ p. if q site p then f p else 0) (n + 1)
+      at_site : (site : ℕ) → 1 ≤ site → site ≤ 8 → (h ≡ site) ⊎ (h ≡ site → ⊥)
+          → get_or (set counts (h - 1) (get_or counts (h - 1) 0 + w)) (site - 1) 0 ≡ base site + total (λ p. if q site p then f p else 0) (n + 1)
       at_site site a b (inl e) =
           let more = one_more site true (test site ∙ eq-eqb h site e) in
           let within : h - 1 < length counts = omega (arith, l, lo, hi) in
           let here : get_or (set counts (h - 1) (get_or counts (h - 1) 0 + w)) (site - 1) 0 ≡ get_or counts (h - 1) 0 + w =
-          ap (λ (i : ℕ). get_or (set counts (h - 1) (get_or counts (h - 1) 0 + w)) (i - 1) 0) (sym e) ∙ get_or-set_same counts (h - 1) (get_or counts (h - 1) 0 + w) 0 within in
+          ap (λ (i : ℕ). get_or (set counts (h - 1) (get_or counts (h - 1) 0 + w)) (i - 1) 0) (sym e)
+          ∙ get_or-set_same counts (h - 1) (get_or counts (h - 1) 0 + w) 0 within in
           let before : get_or counts (h - 1) 0 ≡ base site + total (λ p. if q site p then f p else 0) n =
           ap (λ (i : ℕ). get_or counts (i - 1) 0) e ∙ t.sums site a b in
           omega (arith, more, here, before, is)
@@ -86,7 +90,8 @@ no_home homes site p lo past = ne_eqb (get_or homes p 0) site (λ e. let none = 
 
 pub sum_test : (f : ℕ → ℕ) (s t : ℕ → Bool) (xs : List ℕ) → ((p : ℕ) → s p ≡ t p) → sum_by f (filter s xs) ≡ sum_by f (filter t xs)
 sum_test f s t xs same =
-    sum_filter f s xs ∙ sum_same (λ p. if s p then f p else 0) (λ p. if t p then f p else 0) xs (λ p. ap (λ (b : Bool). if b then f p else 0) (same p)) ∙ sym (sum_filter f t xs)
+    sum_filter f s xs ∙ sum_same (λ p. if s p then f p else 0) (λ p. if t p then f p else 0) xs (λ p. ap (λ (b : Bool). if b then f p else 0) (same p))
+    ∙ sym (sum_filter f t xs)
 
 -- from nothing on, the counts are the sums of f over the partitions that pass
 pub tally_sums : (q : ℕ → ℕ → Bool) (f : ℕ → ℕ) (counts : List ℕ) (n m : ℕ) → Tallied (λ i. 0) q f counts n → n ≡ m
@@ -98,7 +103,8 @@ tally_sums q f counts n m t e site lo hi =
 
 -- the same for the partitions that stay, as they are listed
 pub tally_others : (wanted homes : List ℕ) (f : ℕ → ℕ) (counts : List ℕ) (n m : ℕ) → Tallied (λ i. 0) (stays wanted homes) f counts n → n ≡ m
-    → (site : ℕ) → 1 ≤ site → site ≤ 8 → get_or counts (site - 1) 0 ≡ sum_by f (filter (λ p. (home_in homes p == site) && not (is_among (parts_in wanted) p)) (range_with_len 0 m))
+    → (site : ℕ) → 1 ≤ site → site ≤ 8 → get_or counts (site - 1) 0 ≡ sum_by f
+    (filter (λ p. (home_in homes p == site) && not (is_among (parts_in wanted) p)) (range_with_len 0 m))
 tally_others wanted homes f counts n m t e site lo hi =
     tally_sums (stays wanted homes) f counts n m t e site lo hi
     ∙ sum_test f (stays wanted homes site) (λ p. (home_in homes p == site) && not (is_among (parts_in wanted) p)) (range_with_len 0 m)
@@ -120,7 +126,8 @@ it_stays wanted homes n site e = ap (λ (b : Bool). (home_in homes n == site) &&
 pub it_moves : (wanted homes : List ℕ) (n site : ℕ) → has_part wanted n ≡ true → stays wanted homes site n ≡ false
 it_moves wanted homes n site e = ap (λ (b : Bool). (home_in homes n == site) && not b) e ∙ and_false (home_in homes n == site)
 
-pub one_passes : (t : ℕ → Bool) (f : ℕ → ℕ) (n m w : ℕ) → m ≡ total (λ p. if t p then f p else 0) n → t n ≡ true → w ≡ f n → m + w ≡ total (λ p. if t p then f p else 0) (n + 1)
+pub one_passes : (t : ℕ → Bool) (f : ℕ → ℕ) (n m w : ℕ) → m ≡ total (λ p. if t p then f p else 0) n → t n ≡ true → w ≡ f n
+    → m + w ≡ total (λ p. if t p then f p else 0) (n + 1)
 one_passes t f n m w before passes is =
     let more = total_more (λ p. if t p then f p else 0) n in
     let last : (if t n then f n else 0) ≡ f n = ap (λ (b : Bool). if b then f n else 0) passes in
@@ -135,15 +142,19 @@ one_fails t f n m before fails =
 -- ---- what a set has beside the wanted partitions
 
 pub others_counted : (set wanted homes : List ℕ) (site : ℕ) → 1 ≤ site
-    → count_by (λ p. not (is_among (parts_in wanted) p) && (home_in homes p == site)) (parts_in set) ≡ total (λ p. if is_other set wanted homes site p then 1 else 0) (length homes)
+    → count_by (λ p. not (is_among (parts_in wanted) p) && (home_in homes p == site)) (parts_in set) ≡ total
+    (λ p. if is_other set wanted homes site p then 1 else 0) (length homes)
 others_counted set wanted homes site lo =
     total_filter (λ p. cond (not (is_among (parts_in wanted) p) && (home_in homes p == site)) 1 0) (has_part set) (64 * length set)
-    ∙ same_total (λ k. if has_part set k then cond (not (is_among (parts_in wanted) k) && (home_in homes k == site)) 1 0 else 0) (λ p. if is_other set wanted homes site p then 1 else 0) (64 * length set)
-    (λ k l. ap (λ (b : Bool). if has_part set k then cond (not b && (home_in homes k == site)) 1 0 else 0) (among_parts wanted k) ∙ nested (has_part set k) (not (has_part wanted k) && (home_in homes k == site)))
+    ∙ same_total (λ k. if has_part set k then cond (not (is_among (parts_in wanted) k) && (home_in homes k == site)) 1 0 else 0)
+    (λ p. if is_other set wanted homes site p then 1 else 0) (64 * length set)
+    (λ k l. ap (λ (b : Bool). if has_part set k then cond (not b && (home_in homes k == site)) 1 0 else 0) (among_parts wanted k)
+    ∙ nested (has_part set k) (not (has_part wanted k) && (home_in homes k == site)))
     ∙ total_to (λ p. if is_other set wanted homes site p then 1 else 0) (64 * length set) (length homes)
     (λ j h. ap (λ (b : Bool). if b && (not (has_part wanted j) && (home_in homes j == site)) then 1 else 0) (none_past set j h))
     (λ j h. ap (λ (b : Bool). if has_part set j && (not (has_part wanted j) && b) then 1 else 0) (no_home homes site j lo h)
-    ∙ ap (λ (b : Bool). if has_part set j && b then 1 else 0) (and_false (not (has_part wanted j))) ∙ ap (λ (b : Bool). if b then 1 else 0) (and_false (has_part set j)))
+    ∙ ap (λ (b : Bool). if has_part set j && b then 1 else 0) (and_false (not (has_part wanted j)))
+    ∙ ap (λ (b : Bool). if b then 1 else 0) (and_false (has_part set j)))
   where
     nested : (a b : Bool) → ◌≡◌ {A = ℕ} (if a then cond b 1 0 else 0) (if a && b then 1 else 0)
     nested true b = refl
@@ -165,9 +176,11 @@ meets_is set wanted parts below =
     any_count (λ p. has_part set p && has_part wanted p) (range_with_len 0 parts)
     ∙ ap (λ (n : ℕ). nat_lt 0 n) (sum_range (λ p. cond (has_part set p && has_part wanted p) 1 0) parts
     ∙ total_to (λ p. cond (has_part set p && has_part wanted p) 1 0) parts (64 * length wanted)
-    (λ j h. ap (λ (b : Bool). cond (has_part set j && b) 1 0) (none_above j h (has_part wanted j) refl) ∙ ap (λ (b : Bool). cond b 1 0) (and_false (has_part set j)))
+    (λ j h. ap (λ (b : Bool). cond (has_part set j && b) 1 0) (none_above j h (has_part wanted j) refl)
+    ∙ ap (λ (b : Bool). cond b 1 0) (and_false (has_part set j)))
     (λ j h. ap (λ (b : Bool). cond (has_part set j && b) 1 0) (none_past wanted j h) ∙ ap (λ (b : Bool). cond b 1 0) (and_false (has_part set j)))
-    ∙ same_total (λ p. cond (has_part set p && has_part wanted p) 1 0) (λ k. if has_part wanted k then cond (is_among (parts_in set) k) 1 0 else 0) (64 * length wanted)
+    ∙ same_total (λ p. cond (has_part set p && has_part wanted p) 1 0) (λ k. if has_part wanted k then cond (is_among (parts_in set) k) 1 0 else 0)
+    (64 * length wanted)
     (λ k l. turned (has_part set k) (has_part wanted k) ∙ ap (λ (b : Bool). if has_part wanted k then cond b 1 0 else 0) (sym (among_parts set k)))
     ∙ sym (total_filter (λ p. cond (is_among (parts_in set) p) 1 0) (has_part wanted) (64 * length wanted)))
     ∙ sym (any_count (is_among (parts_in set)) (parts_in wanted))

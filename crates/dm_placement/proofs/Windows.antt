@@ -1,5 +1,6 @@
 -- A window of sets, and the lists of the last Routes.
-use Rattle.std.proofs.Common.{ℕ, zero, suc, ◌+◌, ◌-◌, ◌<◌, ◌≤◌, ◌≡◌, ◌≢◌, Bool, true, false, cond, List, [], ◌∷◌, ◌++◌, length, get_or, take, drop, refl, sym, ap, ◌∙◌, arith, inl, inr, subst, length-append}
+use Rattle.std.proofs.Common.{ℕ, zero, suc, ◌+◌, ◌-◌, ◌<◌, ◌≤◌, ◌≡◌, ◌≢◌, Bool, true, false, cond, List, [], ◌∷◌, ◌++◌, length, get_or, take, drop, refl, sym}
+use Rattle.std.proofs.Common.{ap, ◌∙◌, arith, inl, inr, subst, length-append}
 use Rattle.std.specs.List.{AllPairs, AllZip}
 use Rattle.std.specs.Prelude.{reverse, ◌==◌, ◌||◌, ◌⊎◌}
 use Rattle.std.proofs.lemmas.Bool.{cases_eq, cases_lt, eq-eqb, ne_eqb}
@@ -17,7 +18,8 @@ take_all zero (x ∷ xs) h = absurd (omega (arith, h))
 take_all (suc n) (x ∷ xs) h = ap (λ (l : List _). x ∷ l) (take_all n xs (omega (arith, h)))
 
 -- the sets but for the first, which is one of at most m + 1, with one more
-shifted : (R : List ℕ → List ℕ → Type 0) (m : ℕ) (window : List (List ℕ)) (w l r : List ℕ) (lists : List (List ℕ)) → AllZip R window (r ∷ lists) → length lists ≡ m → R w l
+shifted : (R : List ℕ → List ℕ → Type 0) (m : ℕ) (window : List (List ℕ)) (w l r : List ℕ) (lists : List (List ℕ)) → AllZip R window (r ∷ lists)
+    → length lists ≡ m → R w l
     → AllZip R (drop (length (window ++ w ∷ []) - suc m) (window ++ w ∷ [])) (lists ++ l ∷ [])
 shifted R m [] w l r lists z n h = absurd z
 shifted R m (x ∷ window) w l r lists z n h =
@@ -26,7 +28,8 @@ shifted R m (x ∷ window) w l r lists z n h =
     subst (λ (k : ℕ). AllZip R (drop k ((x ∷ window) ++ w ∷ [])) (lists ++ l ∷ [])) (sym one) (AllZip-push R window lists w l z.1 h)
 
 -- the last m + 1, once one more came
-pub noted_zip : (R : List ℕ → List ℕ → Type 0) (m : ℕ) (window : List (List ℕ)) (rest : List (List ℕ)) (w l : List ℕ) → AllZip R window (reverse (take (suc m) rest)) → R w l
+pub noted_zip : (R : List ℕ → List ℕ → Type 0) (m : ℕ) (window : List (List ℕ)) (rest : List (List ℕ)) (w l : List ℕ)
+    → AllZip R window (reverse (take (suc m) rest)) → R w l
     → AllZip R (drop (length (window ++ w ∷ []) - suc m) (window ++ w ∷ [])) (reverse (l ∷ take m rest))
 noted_zip R m window rest w l z h =
     subst (λ (xs : List (List ℕ)). AllZip R (drop (length (window ++ w ∷ []) - suc m) (window ++ w ∷ [])) xs) (sym (reverse-append (l ∷ []) (take m rest)))
@@ -39,9 +42,17 @@ noted_zip R m window rest w l z h =
       | inr few ↦
           (let all : take (suc m) rest ≡ take m rest = take_all (suc m) rest (omega arith) ∙ sym (take_all m rest few) in
           let zipped : AllZip R window (reverse (take m rest)) = subst (λ (xs : List (List ℕ)). AllZip R window (reverse xs)) all z in
-          let short : length window ≤ m = omega (arith, length_all_zip R window (reverse (take m rest)) zipped, length-reverse (take m rest), ap (λ (xs : List (List ℕ)). length xs) (take_all m rest few), few) in
+          let short : length window ≤ m = omega (
+            arith,
+            length_all_zip R window (reverse (take m rest)) zipped,
+            length-reverse (take m rest),
+            ap
+                (λ (xs : List (List ℕ)). length xs) (take_all m rest few),
+            few,
+          ) in
           let none : length (window ++ w ∷ []) - suc m ≡ 0 = omega (arith, short, length-append window (w ∷ [])) in
-          subst (λ (k : ℕ). AllZip R (drop k (window ++ w ∷ [])) (reverse (take m rest) ++ l ∷ [])) (sym none) (AllZip-push R window (reverse (take m rest)) w l zipped h))
+          subst (λ (k : ℕ). AllZip R (drop k (window ++ w ∷ [])) (reverse (take m rest) ++ l ∷ [])) (sym none)
+          (AllZip-push R window (reverse (take m rest)) w l zipped h))
     ])
 
 -- ---- each element once
@@ -50,7 +61,8 @@ pub among_distinct : (xs : List ℕ) (p : ℕ) → is_among (distinct xs) p ≡ 
 among_distinct [] p = refl
 among_distinct (x ∷ xs) p = at_head (is_among xs x) refl (among_distinct xs p) (cases_eq x p)
   where
-    at_head : (b : Bool) → is_among xs x ≡ b → is_among (distinct xs) p ≡ is_among xs p → (x ≡ p) ⊎ (x ≡ p → ⊥) → is_among (cond b (distinct xs) (x ∷ distinct xs)) p ≡ is_among (x ∷ xs) p
+    at_head : (b : Bool) → is_among xs x ≡ b → is_among (distinct xs) p ≡ is_among xs p → (x ≡ p) ⊎ (x ≡ p → ⊥)
+        → is_among (cond b (distinct xs) (x ∷ distinct xs)) p ≡ is_among (x ∷ xs) p
     at_head false e rest same = ap (λ (c : Bool). (x == p) || c) rest
     at_head true e rest (inl q) = rest ∙ sym (ap (is_among xs) q) ∙ e ∙ sym (ap (λ (c : Bool). c || is_among xs p) (eq-eqb x p q))
     at_head true e rest (inr d) = rest ∙ sym (ap (λ (c : Bool). c || is_among xs p) (ne_eqb x p d))

@@ -28,15 +28,18 @@ join_more count v vs l =
     by_component zero o m = absurd (omega (arith, o))
     by_component (suc k) o m =
         let one : get_or (join (join_all count vs) v) k 0 ≡ max (get_or (join_all count vs) k 0) (get_or v k 0) = at_join (join_all count vs) v k in
-        let two : at (join_all count vs) (suc k) ≡ greatest (map (λ w. at w (suc k)) vs) = at_by count (λ site. greatest (map (λ w. at w site) vs)) (suc k) o m in
+        let two : at (join_all count vs) (suc k) ≡ greatest (map (λ w. at w (suc k)) vs) =
+        at_by count (λ site. greatest (map (λ w. at w site) vs)) (suc k) o m in
         grind (arith, one, two)
 
 -- the same, where there may be one more
-pub join_one_more : (count : ℕ) (o : Option (List ℕ)) (vs : List (List ℕ)) → IfSome o (λ v. length v ≡ count) → join_one (join_all count vs) o ≡ join_all count (cons_option o vs)
+pub join_one_more : (count : ℕ) (o : Option (List ℕ)) (vs : List (List ℕ)) → IfSome o (λ v. length v ≡ count)
+    → join_one (join_all count vs) o ≡ join_all count (cons_option o vs)
 join_one_more count None vs h = refl
 join_one_more count (Some v) vs h = join_more count v vs h
 
 -- the vector that may come is as long as the maximum
-pub long_both : (count : ℕ) (o : Option (List ℕ)) (vs : List (List ℕ)) (v : List ℕ) → v ≡ join_all count vs → IfSome o (λ w. length w ≡ count) → IfSome o (λ w. length v ≡ length w)
+pub long_both : (count : ℕ) (o : Option (List ℕ)) (vs : List (List ℕ)) (v : List ℕ) → v ≡ join_all count vs → IfSome o (λ w. length w ≡ count)
+    → IfSome o (λ w. length v ≡ length w)
 long_both count None vs v e h = tt
 long_both count (Some w) vs v e h = ap (λ (u : List ℕ). length u) e ∙ long_by count _ ∙ sym h

@@ -34,5 +34,6 @@ drop_all (x ∷ xs) zero h = absurd (omega (arith, h))
 drop_all (x ∷ xs) (suc i) h = drop_all xs i (omega (arith, h))
 
 -- a step is allowed by those before it where all are legal
-pub allowed_at : (layout : Layout) (steps : List Step) (i : ℕ) (s : Step) → Legal layout steps → i < length steps → s ≡ get_or steps i s → Allowed layout (reverse (take i steps)) s
+pub allowed_at : (layout : Layout) (steps : List Step) (i : ℕ) (s : Step) → Legal layout steps → i < length steps → s ≡ get_or steps i s
+    → Allowed layout (reverse (take i steps)) s
 allowed_at layout steps i s h l e = (subst (λ (past : List Step). LegalPast layout past) (past_more steps i s l e) (legal_front layout steps (i + 1) h)).1

@@ -1,5 +1,6 @@
 -- Along the chain of a key, from the newest version on.
-use Rattle.std.proofs.Common.{ℕ, suc, ◌<◌, ◌≤◌, ◌≡◌, Bool, true, false, ◌==◌, ◌&&◌, cond, List, [], ◌∷◌, ◌++◌, length, get_or, Option, Some, None, refl, sym, ap, subst, ◌∙◌, arith, map}
+use Rattle.std.proofs.Common.{ℕ, suc, ◌<◌, ◌≤◌, ◌≡◌, Bool, true, false, ◌==◌, ◌&&◌, cond, List, [], ◌∷◌, ◌++◌, length, get_or, Option, Some, None, refl, sym}
+use Rattle.std.proofs.Common.{ap, subst, ◌∙◌, arith, map}
 use Rattle.std.specs.Prelude.{reverse}
 use Rattle.std.proofs.lemmas.Bool.{eqb-true, eq-eqb, le-leb, lt-leb}
 use Rattle.dm_event.specs.Vectors.{at}
@@ -32,7 +33,8 @@ pub none_left : (key : ℕ) (v : List ℕ) (ls : List Link) → last_place key l
 none_left key v [] h = refl
 none_left key v (l ∷ ls) h = by (l.version.key == key) (none_left key v ls) h
   where
-    by : (b : Bool) → (last_place key ls ≡ None → latest_version (versions_of ls) key v ≡ None) → cond b (Some (length ls)) (last_place key ls) ≡ None → cond (b && is_within v l.version) (Some l.version.value) (latest_version (versions_of ls) key v) ≡ None
+    by : (b : Bool) → (last_place key ls ≡ None → latest_version (versions_of ls) key v ≡ None) → cond b (Some (length ls)) (last_place key ls) ≡ None
+        → cond (b && is_within v l.version) (Some l.version.value) (latest_version (versions_of ls) key v) ≡ None
     by true rest h = absurd (cc)
     by false rest h = rest h
 
@@ -40,7 +42,8 @@ pub last_of : (key : ℕ) (v : List ℕ) (ls : List Link) (place : ℕ) → AreL
 last_of key v [] place linked h = absurd (cc)
 last_of key v (l ∷ ls) place linked h = by (l.version.key == key) refl (last_of key v ls place linked.1) h
   where
-    by : (b : Bool) → (l.version.key == key) ≡ b → (last_place key ls ≡ Some place → IsLast key v ls place) → cond b (Some (length ls)) (last_place key ls) ≡ Some place → IsLast key v (l ∷ ls) place
+    by : (b : Bool) → (l.version.key == key) ≡ b → (last_place key ls ≡ Some place → IsLast key v ls place)
+        → cond b (Some (length ls)) (last_place key ls) ≡ Some place → IsLast key v (l ∷ ls) place
     by true e rest h = record { link = l; below = ls; front = []; split = refl; at = (cc); key_is = eqb-true l.version.key key e; linked = linked; same = refl }
     by false e rest h =
         let r = rest h in
@@ -91,7 +94,8 @@ module _ (all : List Link) (key : ℕ) (v : List ℕ) where
     whole = f.split ∙ ap (λ (xs : List Link). f.front ++ xs) last.split ∙ sym (append_assoc f.front last.front (last.link ∷ last.below))
 
     pub in_bounds : place < length all
-    in_bounds = let a = ap (λ (xs : List Link). length xs) whole in let b = length-append (f.front ++ last.front) (last.link ∷ last.below) in let h = last.at in omega arith
+    in_bounds = let a = ap (λ (xs : List Link). length xs) whole in let b = length-append (f.front ++ last.front) (last.link ∷ last.below) in let h = last.at in
+        omega arith
 
     module _ (items : List Link) (turned : all ≡ reverse items) where
       -- the link at the place is the key's last one
@@ -99,7 +103,9 @@ module _ (all : List Link) (key : ℕ) (v : List ℕ) where
       found d =
           let seam = reverse last.below in
           let parts : items ≡ (seam ++ last.link ∷ []) ++ reverse (f.front ++ last.front) =
-          sym (reverse-reverse items) ∙ ap (λ (xs : List Link). reverse xs) (sym turned ∙ whole) ∙ reverse-append (f.front ++ last.front) (last.link ∷ last.below) ∙ ap (λ (xs : List Link). xs ++ reverse (f.front ++ last.front)) (reverse-append (last.link ∷ []) last.below) in
+          sym (reverse-reverse items) ∙ ap (λ (xs : List Link). reverse xs) (sym turned ∙ whole)
+          ∙ reverse-append (f.front ++ last.front) (last.link ∷ last.below)
+          ∙ ap (λ (xs : List Link). xs ++ reverse (f.front ++ last.front)) (reverse-append (last.link ∷ []) last.below) in
           let n : place ≡ length seam = sym last.at ∙ sym (length-reverse last.below) in
           (λ i. get_or (parts i) (n i) d) ∙ get_seam seam last.link (reverse (f.front ++ last.front)) d
 
@@ -126,16 +132,19 @@ module _ (all : List Link) (key : ℕ) (v : List ℕ) where
               split = whole ∙ sym (append_assoc (f.front ++ last.front) (last.link ∷ []) last.below);
               linked = last.linked.1;
               next_is = ap (λ (l : Link). l.older) link_is ∙ last.linked.0 ∙ ap (λ (k : ℕ). last_place k last.below) last.key_is;
-              same = f.same ∙ last.same ∙ (λ i. cond ((last.link.version.key == key) && outside i) (Some last.link.version.value) (latest_version (versions_of last.below) key v)) ∙ not_here (last.link.version.key == key);
+              same = f.same ∙ last.same ∙ (λ i. cond ((last.link.version.key == key) && outside i) (Some last.link.version.value)
+                  (latest_version (versions_of last.below) key v)) ∙ not_here (last.link.version.key == key);
             }
           where
-            not_here : (b : Bool) → cond (b && false) (Some last.link.version.value) (latest_version (versions_of last.below) key v) ≡ latest_version (versions_of last.below) key v
+            not_here : (b : Bool) → cond (b && false) (Some last.link.version.value) (latest_version (versions_of last.below) key v) ≡ latest_version
+                (versions_of last.below) key v
             not_here true = refl
             not_here false = refl
 
         pub lower : after link.older < after next
         lower =
-            let a : after link.older ≤ length last.below = subst (λ (o : Option ℕ). after o ≤ length last.below) (sym (ap (λ (l : Link). l.older) link_is ∙ last.linked.0)) (after_last last.link.version.key last.below) in
+            let a : after link.older ≤ length last.below = subst (λ (o : Option ℕ). after o ≤ length last.below)
+            (sym (ap (λ (l : Link). l.older) link_is ∙ last.linked.0)) (after_last last.link.version.key last.below) in
             let b : after next ≡ suc place = ap after e in
             let h = last.at in
             omega arith

@@ -1,5 +1,6 @@
 -- The keys of the map are the known ones.
-use Rattle.std.proofs.Common.{ℕ, ◌≡◌, ◌+◌, ◌<◌, take, length, get_or, subst, Bool, true, false, ◌==◌, ◌||◌, nat_eq, cond, List, [], ◌∷◌, ◌++◌, Option, Some, None, is_some, true≢false, refl, sym, ap, ◌∙◌}
+use Rattle.std.proofs.Common.{ℕ, ◌≡◌, ◌+◌, ◌<◌, take, length, get_or, subst, Bool, true, false, ◌==◌, ◌||◌, nat_eq, cond, List, [], ◌∷◌, ◌++◌, Option, Some}
+use Rattle.std.proofs.Common.{None, is_some, true≢false, refl, sym, ap, ◌∙◌}
 use Rattle.std.proofs.lemmas.Bool.{eqb-true, eq-eqb}
 use Rattle.std.proofs.lemmas.List.{map-append, take_more}
 use Rattle.std.specs.List.{AllByRecursion as Each}
@@ -91,13 +92,16 @@ all_push ks [] p h k = (k, tt)
 all_push ks (q ∷ ps) p h k = (h.0, all_push ks ps p h.1 k)
 
 -- one pair more
-pub one_further : (ks new : List ℕ) (ps : List Pair) (i : ℕ) (d : Pair) → i < length ps → AreKnown ks (take i ps) → ((k : ℕ) → is_among ks k ≡ true → is_among new k ≡ true) → is_among new (get_or ps i d).key ≡ true
+pub one_further : (ks new : List ℕ) (ps : List Pair) (i : ℕ) (d : Pair) → i < length ps → AreKnown ks (take i ps)
+    → ((k : ℕ) → is_among ks k ≡ true → is_among new k ≡ true) → is_among new (get_or ps i d).key ≡ true
     → AreKnown new (take (i + 1) ps)
 one_further ks new ps i d l all stay here =
-    subst (λ (qs : List Pair). AreKnown new qs) (sym (take_more ps i d l)) (all_push new (take i ps) (get_or ps i d) (all_more ks new (take i ps) stay all) here)
+    subst (λ (qs : List Pair). AreKnown new qs) (sym (take_more ps i d l))
+    (all_push new (take i ps) (get_or ps i d) (all_more ks new (take i ps) stay all) here)
 
 -- all pairs of each transaction stay known
-pub all_stay : (ks new : List ℕ) (ts : List Past) → ((k : ℕ) → is_among ks k ≡ true → is_among new k ≡ true) → Each (λ t. AreKnown ks t.writes) ts → Each (λ t. AreKnown new t.writes) ts
+pub all_stay : (ks new : List ℕ) (ts : List Past) → ((k : ℕ) → is_among ks k ≡ true → is_among new k ≡ true) → Each (λ t. AreKnown ks t.writes) ts
+    → Each (λ t. AreKnown new t.writes) ts
 all_stay ks new [] stay h = tt
 all_stay ks new (t ∷ ts) stay h = (all_more ks new t.writes stay h.0, all_stay ks new ts stay h.1)
 
@@ -106,7 +110,8 @@ each_push P [] x h p = (p, tt)
 each_push P (y ∷ ys) x h p = (h.0, each_push P ys x h.1 p)
 
 -- one transaction more
-pub one_later : (ks new : List ℕ) (past : List Past) (i : ℕ) (t : Past) → i < length past → t ≡ get_or past i t → Each (λ (t : Past). AreKnown ks t.writes) (take i past) → ((k : ℕ) → is_among ks k ≡ true → is_among new k ≡ true) → AreKnown new t.writes
+pub one_later : (ks new : List ℕ) (past : List Past) (i : ℕ) (t : Past) → i < length past → t ≡ get_or past i t
+    → Each (λ (t : Past). AreKnown ks t.writes) (take i past) → ((k : ℕ) → is_among ks k ≡ true → is_among new k ≡ true) → AreKnown new t.writes
     → Each (λ (t : Past). AreKnown new t.writes) (take (i + 1) past)
 one_later ks new past i t l read all stay here =
     subst (λ (us : List Past). Each (λ (t : Past). AreKnown new t.writes) us) (sym (take_more past i t l ∙ ap (λ (u : Past). take i past ++ u ∷ []) (sym read)))

@@ -1,5 +1,6 @@
 -- Past transactions, one after another.
-use Rattle.std.proofs.Common.{ℕ, suc, nat_le, ◌&&◌, ◌≤◌, map, arith, true, ◌+◌, ◌<◌, ◌≡◌, List, [], ◌∷◌, ◌++◌, length, get_or, take, drop, sym, ap, subst, ◌∙◌, drop-cons}
+use Rattle.std.proofs.Common.{ℕ, suc, nat_le, ◌&&◌, ◌≤◌, map, arith, true, ◌+◌, ◌<◌, ◌≡◌, List, [], ◌∷◌, ◌++◌, length, get_or, take, drop, sym, ap, subst, ◌∙◌}
+use Rattle.std.proofs.Common.{drop-cons}
 use Rattle.std.proofs.lemmas.Bool.{and_parts, leb-true}
 use Rattle.std.proofs.lemmas.List.{take_more}
 use Rattle.dm_event.specs.declared.limits.TheConstants.{MAX_KEYS}
@@ -9,10 +10,12 @@ use Rattle.dm_store.specs.Rising.{fits, may_install, is_above}
 use Rattle.dm_store.specs.declared.past.Past.{Past}
 
 module _ (past : List Past) (i : ℕ) (t : Past) (l : i < length past) (read : t ≡ get_or past i t) where
-  pub next_fits : (installed : List Past) → may_install installed (drop i past) ≡ true → (fits installed t ≡ true) × (may_install (installed ++ t ∷ []) (drop (i + 1) past) ≡ true)
+  pub next_fits : (installed : List Past) → may_install installed (drop i past) ≡ true → (fits installed t ≡ true)
+      × (may_install (installed ++ t ∷ []) (drop (i + 1) past) ≡ true)
   next_fits installed h =
       let next : suc i ≡ i + 1 = omega arith in
-      and_parts (fits installed t) (may_install (installed ++ t ∷ []) (drop (i + 1) past)) (subst (λ (us : List Past). may_install installed us ≡ true) (drop-cons past i t l ∙ (λ j. sym read j ∷ drop (next j) past)) h)
+      and_parts (fits installed t) (may_install (installed ++ t ∷ []) (drop (i + 1) past))
+      (subst (λ (us : List Past). may_install installed us ≡ true) (drop-cons past i t l ∙ (λ j. sym read j ∷ drop (next j) past)) h)
 
   pub next_taken : (installed : List Past) → installed ≡ take i past → installed ++ t ∷ [] ≡ take (i + 1) past
   next_taken installed e = ap (λ (us : List Past). us ++ t ∷ []) e ∙ sym (take_more past i t l ∙ ap (λ (u : Past). take i past ++ u ∷ []) (sym read))

@@ -5,4 +5,5 @@ use Rattle.dm_clauses.specs.Choosing.{is_settled}
 use Rattle.dm_clauses.proofs.choosing.all_settled.Given as goal
 
 abbrev pub invariant-loop-key : goal.invariant-loop-key
-invariant-loop-key l = list_all (is_settled l.schema (reverse l.steps) l.site) (drop l.key-index l.keys) ≡ list_all (is_settled l.schema (reverse l.steps) l.site) l.keys
+invariant-loop-key l = list_all (is_settled l.schema (reverse l.steps) l.site) (drop l.key-index l.keys) ≡ list_all
+    (is_settled l.schema (reverse l.steps) l.site) l.keys

@@ -10,6 +10,8 @@ pub loop-i-preserved : goal.loop-i-preserved
 loop-i-preserved c =
     c.stands-found.ensures
     ∙ stands_same c.has_epoch-here.result c.is_route.result c.loop-i.found _ _ _
-    (c.has_epoch-here.ensures ∙ ap (λ (o : Option ℕ). is_among (option_to_list o) c.args.epoch) (c.settled_epoch.ensures ∙ ap (λ (p : Placing). settled_epoch c.args.site p) c.placing.ensures.exact))
+    (c.has_epoch-here.ensures ∙ ap (λ (o : Option ℕ). is_among (option_to_list o) c.args.epoch)
+    (c.settled_epoch.ensures ∙ ap (λ (p : Placing). settled_epoch c.args.site p) c.placing.ensures.exact))
     c.is_route.ensures c.loop-i.invariant
-    ∙ sym (stood_more c.args.schema.now c.args.session c.args.part c.args.site c.args.steps.now c.loop-i.i c.index-steps-i.result c.loop-i-test.true c.index-steps-i.is c.args.epoch)
+    ∙ sym (stood_more c.args.schema.now c.args.session c.args.part c.args.site c.args.steps.now c.loop-i.i c.index-steps-i.result c.loop-i-test.true
+    c.index-steps-i.is c.args.epoch)

@@ -16,7 +16,8 @@ join-requires c =
     let at_home : (1 ≤ home) × (home ≤ length c.args.vectors.now) = c.requires.homes c.loop-index.index 0 (omega arith) in
     let as_long : length (get_or c.args.vectors.now (home - 1) c.index-vectors-home.result) ≡ length c.args.vectors.now =
     c.requires.components (home - 1) c.index-vectors-home.result (omega (arith, at_home)) in
-    ap (λ (v : List ℕ). length v) c.loop-index.invariant ∙ long_by (length c.args.vectors.now) _ ∙ sym (ap (λ (v : List ℕ). length v) c.index-vectors-home.is ∙ as_long)
+    ap (λ (v : List ℕ). length v) c.loop-index.invariant ∙ long_by (length c.args.vectors.now) _
+    ∙ sym (ap (λ (v : List ℕ). length v) c.index-vectors-home.is ∙ as_long)
 
 pub loop-index-preserved : goal.loop-index-preserved
 loop-index-preserved c =
@@ -26,19 +27,24 @@ loop-index-preserved c =
     elim c.if-holds.branch [
       | then-holds w ↦
           let within : home - 1 < length vectors = omega (arith, at_home) in
-          let is : w.index-vectors-home.result ≡ get_or vectors (home - 1) [] = get_or_read vectors (home - 1) w.index-vectors-home.result within w.index-vectors-home.is [] in
+          let is : w.index-vectors-home.result ≡ get_or vectors (home - 1) [] =
+          get_or_read vectors (home - 1) w.index-vectors-home.result within w.index-vectors-home.is [] in
           let as_long : length (get_or vectors (home - 1) []) ≡ length vectors = c.requires.components (home - 1) [] within in
           w.need-is ∙ w.join.ensures ∙
-          need_add (length vectors) (has_part c.args.wanted.now) (λ p. vector_in vectors (home_in c.args.homes.now p)) c.loop-index.index c.loop-index.need w.index-vectors-home.result
+          need_add (length vectors) (has_part c.args.wanted.now) (λ p. vector_in vectors (home_in c.args.homes.now p)) c.loop-index.index c.loop-index.need
+          w.index-vectors-home.result
           c.loop-index.invariant (sym w.if-holds.ensures) is (ap (λ (v : List ℕ). length v) is ∙ as_long)
       | else-holds w ↦
           w.need-is ∙
-          need_skip (length vectors) (has_part c.args.wanted.now) (λ p. vector_in vectors (home_in c.args.homes.now p)) c.loop-index.index c.loop-index.need c.loop-index.invariant (sym w.if-holds.ensures)
+          need_skip (length vectors) (has_part c.args.wanted.now) (λ p. vector_in vectors (home_in c.args.homes.now p)) c.loop-index.index c.loop-index.need
+          c.loop-index.invariant (sym w.if-holds.ensures)
     ]
 
 pub returns : goal.returns
 returns c =
     let at_end : c.loop-index.index ≡ length c.args.homes.now = omega arith in
     c.loop-index.invariant
-    ∙ ap (λ (n : ℕ). join_all (length c.args.vectors.now) (map (λ p. vector_in c.args.vectors.now (home_in c.args.homes.now p)) (filter (has_part c.args.wanted.now) (range_with_len 0 n)))) at_end
-    ∙ ap (λ (xs : List ℕ). join_all (length c.args.vectors.now) (map (λ p. vector_in c.args.vectors.now (home_in c.args.homes.now p)) xs)) (parts_below c.args.wanted.now (length c.args.homes.now) c.requires.wanted_homes)
+    ∙ ap (λ (n : ℕ). join_all (length c.args.vectors.now) (map (λ p. vector_in c.args.vectors.now (home_in c.args.homes.now p))
+    (filter (has_part c.args.wanted.now) (range_with_len 0 n)))) at_end
+    ∙ ap (λ (xs : List ℕ). join_all (length c.args.vectors.now) (map (λ p. vector_in c.args.vectors.now (home_in c.args.homes.now p)) xs))
+    (parts_below c.args.wanted.now (length c.args.homes.now) c.requires.wanted_homes)

@@ -17,18 +17,21 @@ use Rattle.dm_placement.proofs.Existing.{window_below}
 use Rattle.dm_placement.proofs.Windows.{noted_zip, among_distinct, distinct_once}
 use Rattle.dm_placement.proofs.law.choices_due.Goals as goal
 
-one_score_due : (layout : Layout) (past : List Step) (window : List (List ℕ)) (homes : List ℕ) (vectors : List (List ℕ)) (set wanted : List ℕ) → LegalPast layout past → Tells layout past window homes vectors → AreSites (length vectors) homes → HaveHomes (length homes) set → Holds set wanted
+one_score_due : (layout : Layout) (past : List Step) (window : List (List ℕ)) (homes : List ℕ) (vectors : List (List ℕ)) (set wanted : List ℕ)
+    → LegalPast layout past → Tells layout past window homes vectors → AreSites (length vectors) homes → HaveHomes (length homes) set → Holds set wanted
     → (site : ℕ) → 1 ≤ site → site ≤ layout.sites → score_in layout.weights window homes vectors set site ≡ score layout past wanted site
 one_score_due layout past window homes vectors set wanted legal t are have h site lo hi =
     ap (λ (n : ℕ). score_of layout.weights n (length homes) (map parts_in window) (home_in homes) (vector_in vectors) (parts_in set) site) t.sites
     ∙ ap (λ (n : ℕ). score_of layout.weights layout.sites n (map parts_in window) (home_in homes) (vector_in vectors) (parts_in set) site) t.parts
-    ∙ score_same layout.weights layout.sites (length layout.masters) window (window_of layout past) (home_in homes) (home layout past) (vector_in vectors) (site_vector layout.sites past) set wanted site
+    ∙ score_same layout.weights layout.sites (length layout.masters) window (window_of layout past) (home_in homes) (home layout past) (vector_in vectors)
+    (site_vector layout.sites past) set wanted site
     t.sets (window_below layout past legal) h t.home_of needed (t.vector_of site lo hi)
   where
     needed : (p : ℕ) → is_among wanted p ≡ true → vector_in vectors (home_in homes p) ≡ site_vector layout.sites past (home layout past p)
     needed = λ p e.
         let at_home : (1 ≤ get_or homes p 0) × (get_or homes p 0 ≤ length vectors) = are p 0 (have p (h.members p ∙ e)) in
-        t.vector_of (home_in homes p) at_home.0 (omega (arith, at_home, t.sites)) ∙ ap (site_vector layout.sites past) (t.home_of p (omega (arith, have p (h.members p ∙ e), t.parts)))
+        t.vector_of (home_in homes p) at_home.0 (omega (arith, at_home, t.sites))
+        ∙ ap (site_vector layout.sites past) (t.home_of p (omega (arith, have p (h.members p ∙ e), t.parts)))
 
 pub returns-clause-scores : goal.returns-clause-scores
 returns-clause-scores c = one_score_due
@@ -37,12 +40,14 @@ pub returns-clause-choice : goal.returns-clause-choice
 returns-clause-choice c = λ layout past window homes vectors set wanted legal t are have h one.
     let due = one_score_due layout past window homes vectors set wanted legal t are have h in
     ap (λ (n : ℕ). best_site (score_in layout.weights window homes vectors set) (sites_to n) 1) t.sites
-    ∙ best_same (score_in layout.weights window homes vectors set) (score layout past wanted) 1 layout.sites 1 (λ s lo hi. due s lo (omega (arith, hi))) (due 1 (omega arith) one)
+    ∙ best_same (score_in layout.weights window homes vectors set) (score layout past wanted) 1 layout.sites 1 (λ s lo hi. due s lo (omega (arith, hi)))
+    (due 1 (omega arith) one)
 
 pub returns-clause-noted : goal.returns-clause-noted
 returns-clause-noted c = λ layout past step window set parts z e h.
     let rest = filter_map (declared_parts layout) past in
-    subst (λ (o : Option (List ℕ)). AllZip Holds (noted window set) (reverse (take 256 (cons_option o rest)))) (sym e) (noted_zip Holds 255 window rest set parts z h)
+    subst (λ (o : Option (List ℕ)). AllZip Holds (noted window set) (reverse (take 256 (cons_option o rest)))) (sym e)
+    (noted_zip Holds 255 window rest set parts z h)
 
 pub returns-clause-unnoted : goal.returns-clause-unnoted
 returns-clause-unnoted c = λ layout past step e. ap (λ (o : Option (List ℕ)). take 256 (cons_option o (filter_map (declared_parts layout) past))) e

@@ -30,13 +30,21 @@ loop-index-preserved c =
     let there_is : c.uneven-uneven_there.result ≡ uneven sites parts window (moved_to sites parts window (home_in homes) wanted site) =
     uneven_is sites parts window (moved_to sites parts window (home_in homes) wanted site) (take sites c.moved_to.result) c.uneven-uneven_there.result
     (ap (λ (xs : List ℕ). take sites xs) c.moved_to.ensures.exact
-    ∙ first_loads moved sites (load sites parts window (moved_to sites parts window (home_in homes) wanted site)) (omega (arith, length-set c.new-loads.result.others (site - 1) (get_or c.new-loads.result.others (site - 1) 0 + c.new-loads.result.wanted), c.new-loads.ensures.eight, c.requires.sites))
-    (λ i lo hi. moved_loads sites parts window (home_in homes) wanted c.new-loads.result.others c.new-loads.result.wanted site c.new-loads.ensures.eight.1 (omega arith) (omega (arith, c.requires.sites))
+    ∙ first_loads moved sites (load sites parts window (moved_to sites parts window (home_in homes) wanted site))
+    (omega (
+      arith,
+      length-set c.new-loads.result.others (site - 1) (get_or c.new-loads.result.others (site - 1) 0 + c.new-loads.result.wanted),
+      c.new-loads.ensures.eight,
+      c.requires.sites,
+    ))
+    (λ i lo hi. moved_loads sites parts window (home_in homes) wanted c.new-loads.result.others c.new-loads.result.wanted site c.new-loads.ensures.eight.1
+    (omega arith) (omega (arith, c.requires.sites))
     c.new-loads.ensures.others c.new-loads.ensures.wanted i lo (omega (arith, hi, c.requires.sites))))
     c.uneven-uneven_there.ensures.exact in
     let as_place : c.loop-index.index ≡ site - 1 = omega arith in
     let vector_is : c.index-vectors-index.result ≡ vector_in vectors site =
-    get_or_read vectors c.loop-index.index c.index-vectors-index.result (omega arith) c.index-vectors-index.is [] ∙ ap (λ (i : ℕ). get_or vectors i []) as_place in
+    get_or_read vectors c.loop-index.index c.index-vectors-index.result (omega arith) c.index-vectors-index.is []
+    ∙ ap (λ (i : ℕ). get_or vectors i []) as_place in
     let behind_is : c.lag-lag.result ≡ lag sites (home_in homes) (vector_in vectors) wanted site =
     c.lag-lag.ensures.exact
     ∙ ap (λ (u : List ℕ). sum_by (λ j. at u j - at c.index-vectors-index.result j) (sites_to sites)) c.need-need.ensures
@@ -44,13 +52,16 @@ loop-index-preserved c =
     let beside_is : get_or c.together-together.result c.loop-index.index 0 ≡ together window (home_in homes) wanted site =
     ap (λ (i : ℕ). get_or c.together-together.result i 0) as_place ∙ c.together-together.ensures.exact site (omega arith) (omega (arith, c.requires.sites)) in
     let is : c.score.result ≡ score_in c.args.weights c.args.window.now homes vectors c.args.wanted site =
-    one_score c.args.weights sites parts window (home_in homes) (vector_in vectors) wanted site c.uneven-uneven_now.result c.uneven-uneven_there.result c.lag-lag.result (get_or c.together-together.result c.loop-index.index 0) c.score.result
+    one_score c.args.weights sites parts window (home_in homes) (vector_in vectors) wanted site c.uneven-uneven_now.result c.uneven-uneven_there.result
+    c.lag-lag.result (get_or c.together-together.result c.loop-index.index 0) c.score.result
     c.score.ensures.exact now_is there_is behind_is beside_is in
     let value : to_z w128 (of_z w128 c.score.result) ≡ c.score.result = to_z-of_z w128 c.score.result (record { sfits = c.score.type_inv }) in
     record {
-      each = write_next c.loop-index.scores c.loop-index.index _ (λ i. score_in c.args.weights c.args.window.now homes vectors c.args.wanted i) within (value ∙ is) c.loop-index.invariant.each;
+      each = write_next c.loop-index.scores c.loop-index.index _ (λ i. score_in c.args.weights c.args.window.now homes vectors c.args.wanted i) within
+          (value ∙ is) c.loop-index.invariant.each;
       past = write_past c.loop-index.scores c.loop-index.index _ c.loop-index.invariant.past;
-      bound = write_keeps IsSmall c.loop-index.scores c.loop-index.index _ within (subst IsSmall (sym value) c.score.ensures.bound) c.loop-index.invariant.bound;
+      bound = write_keeps IsSmall c.loop-index.scores c.loop-index.index _ within (subst IsSmall (sym value) c.score.ensures.bound)
+          c.loop-index.invariant.bound;
       eight = length-set c.loop-index.scores c.loop-index.index _ ∙ c.loop-index.invariant.eight;
     }
 
@@ -58,7 +69,8 @@ pub returns-clause-each : goal.returns-clause-each
 returns-clause-each c = λ site lo hi.
     let place : site - 1 < c.loop-index.index = omega arith in
     c.loop-index.invariant.each (site - 1) place
-    ∙ ap (λ (i : ℕ). score_in c.args.weights c.args.window.now c.args.homes.now c.args.vectors.now c.args.wanted i) (let e : site - 1 + 1 ≡ site = omega arith in e)
+    ∙ ap (λ (i : ℕ). score_in c.args.weights c.args.window.now c.args.homes.now c.args.vectors.now c.args.wanted i)
+    (let e : site - 1 + 1 ≡ site = omega arith in e)
 
 pub returns-clause-bound : goal.returns-clause-bound
 returns-clause-bound c = λ site. small_size (get_or c.loop-index.scores (site - 1) (pos 0)) (c.loop-index.invariant.bound (site - 1))

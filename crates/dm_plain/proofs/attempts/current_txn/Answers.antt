@@ -9,5 +9,6 @@ use Rattle.dm_plain.proofs.attempts.current_txn.Goals as goal
 
 pub returns : goal.returns
 returns c =
-    c.loop-step.invariant ∙ ap (λ (past : List Step). latest (routed_by c.args.session) (since (is_reply c.args.session) past)) (past_whole c.args.steps.now c.loop-step.step-index c.loop-step-test.false)
+    c.loop-step.invariant ∙ ap (λ (past : List Step). latest (routed_by c.args.session) (since (is_reply c.args.session) past))
+    (past_whole c.args.steps.now c.loop-step.step-index c.loop-step-test.false)
     ∙ routed_last c.args.session (since (is_reply c.args.session) (reverse c.args.steps.now))

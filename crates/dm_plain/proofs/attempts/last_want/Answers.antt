@@ -8,5 +8,6 @@ use Rattle.dm_plain.proofs.attempts.last_want.Goals as goal
 
 pub returns : goal.returns
 returns c =
-    c.loop-step.invariant ∙ ap (λ (past : List Step). latest (wanted_by c.args.session) past) (past_whole c.args.steps.now c.loop-step.step-index c.loop-step-test.false)
+    c.loop-step.invariant ∙ ap (λ (past : List Step). latest (wanted_by c.args.session) past)
+    (past_whole c.args.steps.now c.loop-step.step-index c.loop-step-test.false)
     ∙ wanted_last c.args.session (reverse c.args.steps.now)

@@ -8,5 +8,6 @@ use Rattle.dm_plain.proofs.attempts.want.Goals as goal
 
 pub returns : goal.returns
 returns c =
-    c.loop-step.invariant ∙ ap (λ (past : List Step). latest (want_of c.args.txn) past) (past_whole c.args.steps.now c.loop-step.step-index c.loop-step-test.false)
+    c.loop-step.invariant ∙ ap (λ (past : List Step). latest (want_of c.args.txn) past)
+    (past_whole c.args.steps.now c.loop-step.step-index c.loop-step-test.false)
     ∙ want_last c.args.txn (reverse c.args.steps.now)

@@ -9,7 +9,8 @@ use Rattle.dm_plain.proofs.floors.entry_count_with_kept.Goals as goal
 pub returns : goal.returns
 returns c =
     let past = reverse c.args.steps.now in
-    let one = c.is_of.ensures ∙ ap (λ (o : Option Entry). of_origin c.args.site o) (c.kept_entry.ensures ∙ ap (λ (o : Option Pending). kept_entry c.args.found o) c.pending_at.ensures) in
+    let one = c.is_of.ensures ∙ ap (λ (o : Option Entry). of_origin c.args.site o)
+    (c.kept_entry.ensures ∙ ap (λ (o : Option Pending). kept_entry c.args.found o) c.pending_at.ensures) in
     let all = count_counted c.args.site c.args.site c.args.found past in
     let count = c.entry_count.ensures.exact in
     omega (arith, one, all, count)

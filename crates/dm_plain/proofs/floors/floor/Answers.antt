@@ -17,10 +17,12 @@ pub floor_by-requires-clause-legal : goal.floor_by-requires-clause-legal
 floor_by-requires-clause-legal c = legal_front c.args.schema.now c.args.steps.now c.loop-i.i c.requires
 
 pub floor_by-requires-clause-allowed : goal.floor_by-requires-clause-allowed
-floor_by-requires-clause-allowed c = allowed_at c.args.schema.now c.args.steps.now c.loop-i.i c.index-steps-i.result c.requires c.loop-i-test.true c.index-steps-i.is
+floor_by-requires-clause-allowed c = allowed_at c.args.schema.now c.args.steps.now c.loop-i.i c.index-steps-i.result c.requires c.loop-i-test.true
+    c.index-steps-i.is
 
 pub join_one-floor-requires : goal.join_one-floor-requires
-join_one-floor-requires c = long_both c.args.schema.now.sites c.floor_by.result (floor_vectors c.args.site (reverse (take c.loop-i.i c.args.steps.now))) c.loop-i.floor c.loop-i.invariant c.floor_by.ensures.sites
+join_one-floor-requires c = long_both c.args.schema.now.sites c.floor_by.result (floor_vectors c.args.site (reverse (take c.loop-i.i c.args.steps.now)))
+    c.loop-i.floor c.loop-i.invariant c.floor_by.ensures.sites
 
 pub loop-i-preserved : goal.loop-i-preserved
 loop-i-preserved c =
@@ -30,4 +32,5 @@ loop-i-preserved c =
     ∙ join_one_more c.args.schema.now.sites c.floor_by.result (floor_vectors c.args.site past) c.floor_by.ensures.sites
     ∙ ap (λ (o : Option (List ℕ)). join_all c.args.schema.now.sites (cons_option o (floor_vectors c.args.site past))) c.floor_by.ensures.exact
     ∙ ap (λ (vs : List (List ℕ)). join_all c.args.schema.now.sites vs) (sym (floor_more c.args.site c.index-steps-i.result past))
-    ∙ ap (λ (l : List Step). floor c.args.schema.now.sites l c.args.site) (sym (past_more c.args.steps.now c.loop-i.i c.index-steps-i.result c.loop-i-test.true c.index-steps-i.is))
+    ∙ ap (λ (l : List Step). floor c.args.schema.now.sites l c.args.site)
+    (sym (past_more c.args.steps.now c.loop-i.i c.index-steps-i.result c.loop-i-test.true c.index-steps-i.is))

@@ -18,7 +18,8 @@ kept_floor-requires c =
     (pending_shaped c.args.schema.now c.args.site (reverse c.args.steps.now) c.requires)
 
 pub join_one-requires : goal.join_one-requires
-join_one-requires c = long_both c.args.schema.now.sites c.kept_floor.result (floor_vectors c.args.site (reverse c.args.steps.now)) c.floor.result c.floor.ensures c.kept_floor.ensures.sites
+join_one-requires c = long_both c.args.schema.now.sites c.kept_floor.result (floor_vectors c.args.site (reverse c.args.steps.now)) c.floor.result
+    c.floor.ensures c.kept_floor.ensures.sites
 
 pub returns : goal.returns
 returns c =

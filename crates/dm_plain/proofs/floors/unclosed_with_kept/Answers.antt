@@ -16,5 +16,6 @@ returns c =
     c.or.ensures
     ∙ ap (λ (o : Option (ℕ × ℕ)). option_or o c.unclosed_one.result) c.unclosed.ensures
     ∙ ap (λ (o : Option (ℕ × ℕ)). option_or (option_map named (unclosed v (reverse (entries past)))) o)
-    (c.unclosed_one.ensures ∙ ap (λ (o : Option Entry). unclosed_one v o) (c.kept_entry-entry.ensures ∙ ap (λ (o : Option Pending). kept_entry c.args.found o) c.pending_at.ensures))
+    (c.unclosed_one.ensures ∙ ap (λ (o : Option Entry). unclosed_one v o)
+    (c.kept_entry-entry.ensures ∙ ap (λ (o : Option Pending). kept_entry c.args.found o) c.pending_at.ensures))
     ∙ sym (unclosed_counted v c.args.site c.args.found past)

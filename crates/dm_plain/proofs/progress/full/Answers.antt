@@ -4,4 +4,5 @@ use Rattle.dm_plain.proofs.Components.{vector_is}
 use Rattle.dm_plain.proofs.progress.full.Goals as goal
 
 pub returns : goal.returns
-returns c = vector_is c.args.schema.now.sites c.loop-origin.vector (λ k. entry_count k (reverse c.args.steps.now)) c.loop-origin.invariant.0 (λ k x y. c.loop-origin.invariant.1 k x (omega (arith, y)))
+returns c = vector_is c.args.schema.now.sites c.loop-origin.vector (λ k. entry_count k (reverse c.args.steps.now)) c.loop-origin.invariant.0
+    (λ k x y. c.loop-origin.invariant.1 k x (omega (arith, y)))

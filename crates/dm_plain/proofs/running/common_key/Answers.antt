@@ -8,5 +8,6 @@ use Rattle.dm_plain.proofs.running.common_key.Goals as goal
 pub loop-key-preserved : goal.loop-key-preserved
 loop-key-preserved c =
     find_on (is_among c.args.others.now) c.args.keys.now c.loop-key.key-index (get_or c.args.keys.now c.loop-key.key-index 0) c.loop-key-test.true
-    (sym (get_or_default_zero c.args.keys.now c.loop-key.key-index (get_or c.args.keys.now c.loop-key.key-index 0) c.loop-key-test.true)) (sym c.is_among.ensures ∙ c.if-is_among.false)
+    (sym (get_or_default_zero c.args.keys.now c.loop-key.key-index (get_or c.args.keys.now c.loop-key.key-index 0) c.loop-key-test.true))
+    (sym c.is_among.ensures ∙ c.if-is_among.false)
     ∙ c.loop-key.invariant

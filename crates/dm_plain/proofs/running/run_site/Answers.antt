@@ -7,7 +7,8 @@ use Rattle.dm_plain.proofs.running.run_site.Goals as goal
 
 pub returns-then-runs : goal.returns-then-runs
 returns-then-runs c =
-    sym (find_first (λ i. runs i c.args.txn (reverse c.args.steps.now)) 1 c.args.schema.now.sites c.loop-site.site (omega arith) (omega arith) (sym c.runs.ensures ∙ c.if-runs.true)
+    sym (find_first (λ i. runs i c.args.txn (reverse c.args.steps.now)) 1 c.args.schema.now.sites c.loop-site.site (omega arith) (omega arith)
+    (sym c.runs.ensures ∙ c.if-runs.true)
     (λ j x y. c.loop-site.invariant j x y))
 
 pub loop-site-preserved : goal.loop-site-preserved
@@ -17,4 +18,5 @@ loop-site-preserved c k x y = elim (cases_eq k c.loop-site.site) [
 ]
 
 pub returns : goal.returns
-returns c = sym (find_nothing (λ i. runs i c.args.txn (reverse c.args.steps.now)) 1 c.args.schema.now.sites (λ j x y. c.loop-site.invariant j x (omega (arith, y))))
+returns c = sym (find_nothing (λ i. runs i c.args.txn (reverse c.args.steps.now)) 1 c.args.schema.now.sites
+    (λ j x y. c.loop-site.invariant j x (omega (arith, y))))

@@ -14,7 +14,8 @@ returns-in-Some c =
     let i = c.loop-step.step-index in
     sym (runner_of layout c.args.site c.args.part steps ∙ sym c.loop-step.invariant
     ∙ runner_at layout c.args.site c.args.part (reverse steps) steps i c.step-item.result c.loop-step-test.true c.step-item.is
-    ∙ ap (λ (o : Option TxnId). option_or o (on_part layout c.args.site c.args.part (reverse steps) (drop (i + 1) steps))) (sym c.begun_runner.ensures ∙ c.in-Some.is))
+    ∙ ap (λ (o : Option TxnId). option_or o (on_part layout c.args.site c.args.part (reverse steps) (drop (i + 1) steps)))
+    (sym c.begun_runner.ensures ∙ c.in-Some.is))
 
 pub loop-step-preserved : goal.loop-step-preserved
 loop-step-preserved c =
@@ -22,10 +23,12 @@ loop-step-preserved c =
     let steps = c.args.steps.now in
     let i = c.loop-step.step-index in
     sym (runner_at layout c.args.site c.args.part (reverse steps) steps i c.step-item.result c.loop-step-test.true c.step-item.is
-    ∙ ap (λ (o : Option TxnId). option_or o (on_part layout c.args.site c.args.part (reverse steps) (drop (i + 1) steps))) (sym c.begun_runner.ensures ∙ c.in_default.is))
+    ∙ ap (λ (o : Option TxnId). option_or o (on_part layout c.args.site c.args.part (reverse steps) (drop (i + 1) steps)))
+    (sym c.begun_runner.ensures ∙ c.in_default.is))
     ∙ c.loop-step.invariant
 
 pub returns : goal.returns
 returns c =
     sym (runner_of c.args.schema.now c.args.site c.args.part c.args.steps.now ∙ sym c.loop-step.invariant
-    ∙ ap (λ (l : List Step). on_part c.args.schema.now c.args.site c.args.part (reverse c.args.steps.now) l) (drop_all c.args.steps.now c.loop-step.step-index c.loop-step-test.false))
+    ∙ ap (λ (l : List Step). on_part c.args.schema.now c.args.site c.args.part (reverse c.args.steps.now) l)
+    (drop_all c.args.steps.now c.loop-step.step-index c.loop-step-test.false))

@@ -16,7 +16,8 @@ pub answered_by-requires : goal.answered_by-requires
 answered_by-requires c = legal_front c.args.schema.now c.args.steps.now c.loop-i.i c.requires
 
 pub join_one-seen-requires : goal.join_one-seen-requires
-join_one-seen-requires c = long_both c.args.schema.now.sites c.answered_by.result (answered c.args.session (reverse (take c.loop-i.i c.args.steps.now))) c.loop-i.seen c.loop-i.invariant c.answered_by.ensures.sites
+join_one-seen-requires c = long_both c.args.schema.now.sites c.answered_by.result (answered c.args.session (reverse (take c.loop-i.i c.args.steps.now)))
+    c.loop-i.seen c.loop-i.invariant c.answered_by.ensures.sites
 
 pub loop-i-preserved : goal.loop-i-preserved
 loop-i-preserved c =
@@ -25,4 +26,5 @@ loop-i-preserved c =
     ∙ ap (λ (v : List ℕ). join_one v c.answered_by.result) c.loop-i.invariant
     ∙ join_one_more c.args.schema.now.sites c.answered_by.result (answered c.args.session past) c.answered_by.ensures.sites
     ∙ ap (λ (o : Option (List ℕ)). join_all c.args.schema.now.sites (cons_option o (answered c.args.session past))) c.answered_by.ensures.exact
-    ∙ ap (λ (l : List Step). join_all c.args.schema.now.sites (answered c.args.session l)) (sym (past_more c.args.steps.now c.loop-i.i c.index-steps-i.result c.loop-i-test.true c.index-steps-i.is))
+    ∙ ap (λ (l : List Step). join_all c.args.schema.now.sites (answered c.args.session l))
+    (sym (past_more c.args.steps.now c.loop-i.i c.index-steps-i.result c.loop-i-test.true c.index-steps-i.is))

@@ -4,7 +4,8 @@ use Rattle.dm_event.proofs.lists.Keys.new.Goals as goal
 
 pub returns-then-ascends-clause-exact : goal.returns-then-ascends-clause-exact
 returns-then-ascends-clause-exact c =
-    sym (ascending_is c.args.list.items c.sort_unstable.new.self.items c.sort_unstable.ensures.permutation (rw c.deref.ensures.value at (c.if-ascends.ensures).0 refl))
+    sym (ascending_is c.args.list.items c.sort_unstable.new.self.items c.sort_unstable.ensures.permutation
+    (rw c.deref.ensures.value at (c.if-ascends.ensures).0 refl))
 
 pub returns-else-ascends-clause-exact : goal.returns-else-ascends-clause-exact
 returns-else-ascends-clause-exact c =

@@ -8,7 +8,8 @@ use Rattle.dm_event.proofs.vector.Vector.first_above.Goals as goal
 pub returns-then-get : goal.returns-then-get
 returns-then-get c =
     let long : length c.as_slice.result.now ≡ length c.args.self.now = ap (λ (l : List ℕ). length l) c.as_slice.ensures.same in
-    sym (find_first (λ site. nat_lt (at c.args.other.now site) (at c.args.self.now site)) 1 (length c.args.self.now) c.loop-site.site (omega arith) (omega (arith, long))
+    sym (find_first (λ site. nat_lt (at c.args.other.now site) (at c.args.self.now site)) 1 (length c.args.self.now) c.loop-site.site (omega arith)
+    (omega (arith, long))
     (lt-ltb (at c.args.other.now c.loop-site.site) (at c.args.self.now c.loop-site.site) (omega arith))
     (λ j x y. le-ltb (at c.args.other.now j) (at c.args.self.now j) (c.loop-site.invariant j x y)))
 

@@ -14,7 +14,8 @@ push_reserved-requires c =
     let ws = c.self.inside.waiters.items in
     let claim : Claim = record { txn = c.args.txn; keys = c.args.keys } in
     let got : answer c.args.keys (hs ++ ws) ≡ Got = cc in
-    let free : count_of (is_of_session c.args.txn.session) (hs ++ ws) ≡ 0 = ap (λ (locks : Locks). count_of (is_of_session c.args.txn.session) (everyone locks)) c.self.view_is ∙ c.requires.no_claim in
+    let free : count_of (is_of_session c.args.txn.session) (hs ++ ws) ≡ 0 =
+    ap (λ (locks : Locks). count_of (is_of_session c.args.txn.session) (everyone locks)) c.self.view_is ∙ c.requires.no_claim in
     let s = few_claims (record { holders = hs ++ claim ∷ []; waiters = ws }) (got_holds claim hs ws c.self.invariant.sound c.requires.session free got) in
     let l = length-append hs (claim ∷ []) in
     let n : length hs ≡ vec_len c.self.inside.holders = cc in
@@ -27,7 +28,8 @@ invariant_of-self c =
     let ws = c.self.inside.waiters.items in
     let claim : Claim = record { txn = c.args.txn; keys = c.args.keys } in
     let got : answer c.args.keys (hs ++ ws) ≡ Got = cc in
-    let free : count_of (is_of_session c.args.txn.session) (hs ++ ws) ≡ 0 = ap (λ (locks : Locks). count_of (is_of_session c.args.txn.session) (everyone locks)) c.self.view_is ∙ c.requires.no_claim in
+    let free : count_of (is_of_session c.args.txn.session) (hs ++ ws) ≡ 0 =
+    ap (λ (locks : Locks). count_of (is_of_session c.args.txn.session) (everyone locks)) c.self.view_is ∙ c.requires.no_claim in
     let s = got_holds claim hs ws c.self.invariant.sound c.requires.session free got in
     record {
       sound = rw (c.push_reserved.ensures.items) s;
@@ -40,7 +42,8 @@ push_reserved-requires-in-Waits c =
     let hs = c.self.inside.holders.items in
     let ws = c.self.inside.waiters.items in
     let claim : Claim = record { txn = c.args.txn; keys = c.args.keys } in
-    let free : count_of (is_of_session c.args.txn.session) (hs ++ ws) ≡ 0 = ap (λ (locks : Locks). count_of (is_of_session c.args.txn.session) (everyone locks)) c.self.view_is ∙ c.requires.no_claim in
+    let free : count_of (is_of_session c.args.txn.session) (hs ++ ws) ≡ 0 =
+    ap (λ (locks : Locks). count_of (is_of_session c.args.txn.session) (everyone locks)) c.self.view_is ∙ c.requires.no_claim in
     let s = few_claims (record { holders = hs; waiters = ws ++ claim ∷ [] }) (waits_more claim hs ws c.self.invariant.sound c.requires.session free) in
     let l = length-append ws (claim ∷ []) in
     let n : length ws ≡ vec_len c.self.inside.waiters = cc in
@@ -52,7 +55,8 @@ invariant_of-self-in-Waits c =
     let hs = c.self.inside.holders.items in
     let ws = c.self.inside.waiters.items in
     let claim : Claim = record { txn = c.args.txn; keys = c.args.keys } in
-    let free : count_of (is_of_session c.args.txn.session) (hs ++ ws) ≡ 0 = ap (λ (locks : Locks). count_of (is_of_session c.args.txn.session) (everyone locks)) c.self.view_is ∙ c.requires.no_claim in
+    let free : count_of (is_of_session c.args.txn.session) (hs ++ ws) ≡ 0 =
+    ap (λ (locks : Locks). count_of (is_of_session c.args.txn.session) (everyone locks)) c.self.view_is ∙ c.requires.no_claim in
     let s = waits_more claim hs ws c.self.invariant.sound c.requires.session free in
     record {
       sound = rw (c.push_reserved-in-Waits.ensures.items) s;

@@ -22,12 +22,15 @@ invariant_of-self c =
     let hs = c.self.inside.holders.items in
     let ws = c.self.inside.waiters.items in
     let waits : IsSome (claim_of c.args.txn ws) = subst (λ (locks : Locks). IsSome (claim_of c.args.txn locks.waiters)) (sym c.self.view_is) c.requires.waits in
-    let place : c.answer_in_line-at.result.0 ≡ position_or_len (is_of c.args.txn) ws = c.answer_in_line-at.ensures.place ∙ ap (λ (xs : List Claim). position_or_len (is_of c.args.txn) xs) c.deref-2.ensures.value in
+    let place : c.answer_in_line-at.result.0 ≡ position_or_len (is_of c.args.txn) ws = c.answer_in_line-at.ensures.place
+    ∙ ap (λ (xs : List Claim). position_or_len (is_of c.args.txn) xs) c.deref-2.ensures.value in
     let got : answer_at_poll (record { holders = hs; waiters = ws }) c.args.txn ≡ Got =
-    sym (c.answer_in_line-at.ensures.answer ∙ ap (λ (xs : List Claim). answer_at_poll (record { holders = xs; waiters = c.deref-2.result.now }) c.args.txn) c.deref.ensures.value
+    sym (c.answer_in_line-at.ensures.answer ∙ ap (λ (xs : List Claim). answer_at_poll (record { holders = xs; waiters = c.deref-2.result.now }) c.args.txn)
+    c.deref.ensures.value
     ∙ ap (λ (xs : List Claim). answer_at_poll (record { holders = hs; waiters = xs }) c.args.txn) c.deref-2.ensures.value) ∙ c.in-Got.is in
     record {
-      sound = (moved_by c.args.txn c.remove.result c.answer_in_line-at.result.0 hs ws c.push_reserved.new.self.items c.remove.new.self.items c.self.invariant.sound waits got place c.remove.ensures.value c.push_reserved.ensures.items c.remove.ensures.items).sound;
+      sound = (moved_by c.args.txn c.remove.result c.answer_in_line-at.result.0 hs ws c.push_reserved.new.self.items c.remove.new.self.items
+          c.self.invariant.sound waits got place c.remove.ensures.value c.push_reserved.ensures.items c.remove.ensures.items).sound;
       holders = omega (arith, c.push_reserved.ensures.capacity, c.self.invariant.holders);
       waiters = omega (arith, c.remove.ensures.capacity, c.self.invariant.waiters);
     }
@@ -37,9 +40,12 @@ returns-in-Got-clause-locks c =
     let hs = c.self.inside.holders.items in
     let ws = c.self.inside.waiters.items in
     let waits : IsSome (claim_of c.args.txn ws) = subst (λ (locks : Locks). IsSome (claim_of c.args.txn locks.waiters)) (sym c.self.view_is) c.requires.waits in
-    let place : c.answer_in_line-at.result.0 ≡ position_or_len (is_of c.args.txn) ws = c.answer_in_line-at.ensures.place ∙ ap (λ (xs : List Claim). position_or_len (is_of c.args.txn) xs) c.deref-2.ensures.value in
+    let place : c.answer_in_line-at.result.0 ≡ position_or_len (is_of c.args.txn) ws = c.answer_in_line-at.ensures.place
+    ∙ ap (λ (xs : List Claim). position_or_len (is_of c.args.txn) xs) c.deref-2.ensures.value in
     let got : answer_at_poll (record { holders = hs; waiters = ws }) c.args.txn ≡ Got =
-    sym (c.answer_in_line-at.ensures.answer ∙ ap (λ (xs : List Claim). answer_at_poll (record { holders = xs; waiters = c.deref-2.result.now }) c.args.txn) c.deref.ensures.value
+    sym (c.answer_in_line-at.ensures.answer ∙ ap (λ (xs : List Claim). answer_at_poll (record { holders = xs; waiters = c.deref-2.result.now }) c.args.txn)
+    c.deref.ensures.value
     ∙ ap (λ (xs : List Claim). answer_at_poll (record { holders = hs; waiters = xs }) c.args.txn) c.deref-2.ensures.value) ∙ c.in-Got.is in
-    (moved_by c.args.txn c.remove.result c.answer_in_line-at.result.0 hs ws c.push_reserved.new.self.items c.remove.new.self.items c.self.invariant.sound waits got place c.remove.ensures.value c.push_reserved.ensures.items c.remove.ensures.items).polled
+    (moved_by c.args.txn c.remove.result c.answer_in_line-at.result.0 hs ws c.push_reserved.new.self.items c.remove.new.self.items c.self.invariant.sound waits
+    got place c.remove.ensures.value c.push_reserved.ensures.items c.remove.ensures.items).polled
     ∙ ap (λ (locks : Locks). polled locks c.args.txn) c.self.view_is

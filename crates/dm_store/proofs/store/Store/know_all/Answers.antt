@@ -5,7 +5,8 @@ use Rattle.dm_store.proofs.store.Store.know_all.Goals as goal
 
 pub loop-pair-preserved : goal.loop-pair-preserved
 loop-pair-preserved c = record {
-  all = one_further c.loop-pair.self.known c.know.new.self.known c.as_slice-pair-items.result.now c.loop-pair.pair-index (record { key = 0; value = pos 0 }) (omega arith) c.loop-pair.invariant.all c.in_ok-know.ensures.stay c.in_ok-know.ensures.now_known;
+  all = one_further c.loop-pair.self.known c.know.new.self.known c.as_slice-pair-items.result.now c.loop-pair.pair-index (record { key = 0; value = pos 0 })
+      (omega arith) c.loop-pair.invariant.all c.in_ok-know.ensures.stay c.in_ok-know.ensures.now_known;
   stay = λ key h. c.in_ok-know.ensures.stay key (c.loop-pair.invariant.stay key h);
   layout = search rules;
   installed = search rules;

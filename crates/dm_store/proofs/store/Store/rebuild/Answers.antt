@@ -10,7 +10,8 @@ use Rattle.dm_store.proofs.store.Store.rebuild.Goals as goal
 pub install-requires : goal.install-requires
 install-requires c =
     let before : c.reserve.new.self.installed ≡ c.loop-transaction.store.installed = c.reserve.ensures.installed ∙ c.know_all.ensures.installed in
-    let fit = (next_fits c.args.past.now c.loop-transaction.transaction-index c.transaction-item.result (omega arith) c.transaction-item.is c.loop-transaction.store.installed c.loop-transaction.invariant.rest).0 in
+    let fit = (next_fits c.args.past.now c.loop-transaction.transaction-index c.transaction-item.result (omega arith) c.transaction-item.is
+    c.loop-transaction.store.installed c.loop-transaction.invariant.rest).0 in
     let p = parts c.loop-transaction.store.installed c.transaction-item.result fit in
     record {
       few = p.few;
@@ -26,11 +27,13 @@ loop-transaction-preserved c =
     let t = c.transaction-item.result in
     let l : i < length c.args.past.now = omega arith in
     let before : c.reserve.new.self.installed ≡ c.loop-transaction.store.installed = c.reserve.ensures.installed ∙ c.know_all.ensures.installed in
-    let more : c.install.new.self.installed ≡ c.loop-transaction.store.installed ++ t ∷ [] = c.install.ensures.installed ∙ ap (λ (ts : List Past). ts ++ t ∷ []) before in
+    let more : c.install.new.self.installed ≡ c.loop-transaction.store.installed ++ t ∷ [] = c.install.ensures.installed
+    ∙ ap (λ (ts : List Past). ts ++ t ∷ []) before in
     let known : c.know_all.new.self.known ≡ c.install.new.self.known = sym (c.install.ensures.known ∙ c.reserve.ensures.known) in
     record {
       installed = more ∙ next_taken c.args.past.now i t l c.transaction-item.is c.loop-transaction.store.installed c.loop-transaction.invariant.installed;
-      rest = subst (λ (ts : List Past). may_install ts (drop (i + 1) c.args.past.now) ≡ true) (sym more) (next_fits c.args.past.now i t l c.transaction-item.is c.loop-transaction.store.installed c.loop-transaction.invariant.rest).1;
+      rest = subst (λ (ts : List Past). may_install ts (drop (i + 1) c.args.past.now) ≡ true) (sym more)
+          (next_fits c.args.past.now i t l c.transaction-item.is c.loop-transaction.store.installed c.loop-transaction.invariant.rest).1;
       layout = search rules;
       known = one_later c.loop-transaction.store.known c.install.new.self.known c.args.past.now i t l c.transaction-item.is c.loop-transaction.invariant.known
           (subst (λ (ks : List ℕ). (k : ℕ) → is_among c.loop-transaction.store.known k ≡ true → is_among ks k ≡ true) known c.know_all.ensures.stay)
