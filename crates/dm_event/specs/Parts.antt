@@ -1,7 +1,7 @@
--- Sets of partitions, as 256 bits in four words of 64.
-use Rattle.std.specs.Prelude.{ℕ, ◌/◌, ◌%◌, Bool, ◌==◌, List, slice_index}
-use Rattle.std.specs.Int.{bit_at}
+-- Lists of partitions.
+use Rattle.std.specs.Prelude.{ℕ, List, unwrap_or}
+use Rattle.dm_event.specs.Ascending.{with_key}
 
--- the partition's bit is set in its word
-abbrev pub has_part : List ℕ → ℕ → Bool
-has_part words part = bit_at (slice_index words (part / 64)) (part % 64) == 1
+-- ascending partitions, with one more at its place unless it stands there
+abbrev pub with_part : ℕ → List ℕ → List ℕ
+with_part part parts = unwrap_or (with_key part parts) parts

@@ -1,12 +1,13 @@
 //! Sets of partitions.
 
-ghost use Rattle.std.specs.Prelude.{◌≡◌, ◌≢◌, ◌<◌, ℕ, replicate, true};
-ghost use Rattle.dm_event.specs.Parts.{has_part};
+ghost use Rattle.std.specs.List.{list_any};
+ghost use Rattle.std.specs.Prelude.{◌≡◌, ◌==◌, ◌<◌, []};
+ghost use Rattle.dm_event.specs.Parts.{with_part};
 
 use crate::{MAX_PARTS, Part};
 use std::marker::Model;
 
-/// A set of partitions.
+/// A set of partitions. Contracts see it as the ascending list of them.
 #[derive(Clone, Copy, Debug, PartialEq, Eq)]
 pub struct PartSet {
     words: [u64; 4],
@@ -14,20 +15,22 @@ pub struct PartSet {
 
 impl Model for PartSet {
     ghost use Rattle.std.specs.Prelude.{ℕ, List};
-    ghost use Rattle.dm_event.specs.PartFields.{words_of, set_of, HasFour};
+    ghost use Rattle.dm_event.specs.PartFields.{parts_of, set_of, HasBits, set_of-parts};
 
     ghost Value = { List ℕ };
 
-    ghost view = { words_of };
+    ghost view = { parts_of };
 
-    ghost invariant = { HasFour };
+    ghost invariant = { HasBits };
 
     ghost inverse = { set_of };
+
+    ghost inverse_ok = { set_of-parts };
 }
 
 impl PartSet {
     pub fn empty() -> PartSet
-        ensures { result ≡ replicate 4 0 }
+        ensures { result ≡ [] }
     {
         PartSet { words: [0; 4] }
     }
@@ -35,15 +38,14 @@ impl PartSet {
     /// Puts the partition in.
     pub fn add(&mut self, part: Part)
         requires { part < MAX_PARTS }
-        ensures added { has_part self.new part ≡ true }
-        ensures others { (other : ℕ) → other ≢ part → has_part self.new other ≡ has_part self.old other }
+        ensures { self.new ≡ with_part part self.old }
     {
         self.words[(part / 64) as usize] |= 1 << (part % 64);
     }
 
     pub fn holds(&self, part: Part) -> bool
         requires { part < MAX_PARTS }
-        ensures { result ≡ has_part self.now part }
+        ensures { result ≡ list_any (λ p. p == part) self.now }
     {
         (self.words[(part / 64) as usize] >> (part % 64)) & 1 == 1
     }

@@ -1,11 +1,16 @@
-use Rattle.std.proofs.Common.{◌∙◌, ap, List, ℕ}
-use Rattle.dm_event.specs.Parts.{has_part}
-use Rattle.dm_event.proofs.Bits.{part_added, others_stay}
+use Rattle.std.proofs.Common.{ℕ, List, ◌∙◌, ap}
+use Rattle.dm_event.specs.Parts.{with_part}
+use Rattle.dm_event.proofs.Bits.{part_added, with_bit, with_bit_fits, words_again, words_fit}
+use Rattle.dm_event.specs.PartFields.{bits_set}
 use Rattle.dm_event.proofs.part_set.PartSet.add.Goals as goal
 
-pub returns-clause-added : goal.returns-clause-added
-returns-clause-added c = part_added c.self.inside.words c.args.part c.self.invariant c.requires
+pub invariant_of-self : goal.invariant_of-self
+invariant_of-self c =
+    let old = words_fit c.self.inside.words (bits_set c.self.inside.words) c.self.invariant in
+    let new = with_bit_fits c.self.inside.words c.args.part old.0 c.requires old.1 in
+    words_again (with_bit c.self.inside.words c.args.part) new.0 new.1
 
-pub returns-clause-others : goal.returns-clause-others
-returns-clause-others c other n =
-    others_stay c.self.inside.words c.args.part c.self.invariant c.requires other n ∙ ap (λ (words : List ℕ). has_part words other) c.self.view_is
+pub returns : goal.returns
+returns c =
+    let old = words_fit c.self.inside.words (bits_set c.self.inside.words) c.self.invariant in
+    part_added c.self.inside.words c.args.part old.0 c.requires ∙ ap (λ (parts : List ℕ). with_part c.args.part parts) c.self.view_is
