@@ -11,7 +11,7 @@ use Rattle.std.proofs.lemmas.Nat.Bits.{bit_at_set_same, bit_at_set_other, bit_at
 use Rattle.dm_event.proofs.Components.{same_components}
 use Rattle.dm_event.specs.Ascending.{with_key}
 use Rattle.dm_event.specs.PartFields.{has_bit, bits_set, number_by, words_by}
-use Rattle.dm_event.specs.Parts.{with_part}
+use Rattle.dm_event.specs.Parts.{with_part, in_order}
 use Rattle.dm_event.specs.declared.limits.TheConstants.{MAX_PARTS}
 
 -- ---- the partitions of a list of bits
@@ -56,6 +56,19 @@ among_bits words p h =
     among_filter (has_bit words) (range_with_len 0 MAX_PARTS) p
     ∙ ap (λ (b : Bool). b && has_bit words p) (in_range 0 MAX_PARTS p (omega arith) (omega (arith, h)))
 
+-- the same, of tests that agree in the range
+filter_within : (s t : ℕ → Bool) (a n : ℕ) → ((q : ℕ) → a ≤ q → q < a + n → s q ≡ t q) → filter s (range_with_len a n) ≡ filter t (range_with_len a n)
+filter_within s t a zero h = refl
+filter_within s t a (suc n) h =
+    ap₂ (λ (b : Bool) (rest : List ℕ). cond b (a ∷ rest) rest) (h a (omega arith) (omega arith))
+    (filter_within s t (a + 1) n (λ q l m. h q (omega (arith, l)) (omega (arith, m))))
+
+-- the partitions whose bits are set ascend
+pub bits_ordered : (words : List ℕ) → bits_set words ≡ in_order (bits_set words)
+unfolding bits_set
+bits_ordered words =
+    sym (filter_within (λ p. list_any (λ x. x == p) (bits_set words)) (has_bit words) 0 MAX_PARTS (λ q l m. among_bits words q (omega (arith, m))))
+
 -- ---- one partition more
 
 filter_same : (s t : ℕ → Bool) (a n : ℕ) → ((q : ℕ) → a ≤ q → s q ≡ t q) → filter s (range_with_len a n) ≡ filter t (range_with_len a n)
@@ -85,7 +98,7 @@ with_first t p a (suc n) h = by_test (t a) (with_first t p (a + 1) n (omega (ari
   where
     by_test : (b : Bool) → with_part p (filter t (range_with_len (a + 1) n)) ≡ p ∷ filter t (range_with_len (a + 1) n)
         → with_part p (cond b (a ∷ filter t (range_with_len (a + 1) n)) (filter t (range_with_len (a + 1) n))) ≡ p
-            ∷ cond b (a ∷ filter t (range_with_len (a + 1) n)) (filter t (range_with_len (a + 1) n))
+        ∷ cond b (a ∷ filter t (range_with_len (a + 1) n)) (filter t (range_with_len (a + 1) n))
     by_test true rest = with_above p a (filter t (range_with_len (a + 1) n)) h
     by_test false rest = rest
 
@@ -96,11 +109,11 @@ filter_with s t p a zero lo hi h same = absurd (omega (arith, lo, hi))
 filter_with s t p a (suc n) lo hi h same = elim (cases_eq a p) [
   | inl e ↦
       (let rest : filter s (range_with_len (a + 1) n) ≡ filter t (range_with_len (a + 1) n) =
-          filter_same s t (a + 1) n (λ q l. same q (λ f. omega (arith, f, e, l))) in
+      filter_same s t (a + 1) n (λ q l. same q (λ f. omega (arith, f, e, l))) in
       ap₂ (λ (b : Bool) (xs : List ℕ). cond b (a ∷ xs) xs) (ap s e ∙ h) rest ∙ ap (λ (x : ℕ). x ∷ filter t (range_with_len (a + 1) n)) e ∙ sym (at_it e (t a)))
   | inr d ↦
       (ap₂ (λ (b : Bool) (xs : List ℕ). cond b (a ∷ xs) xs) (same a d) (filter_with s t p (a + 1) n (omega (arith, lo, d)) (omega (arith, hi)) h same)
-          ∙ before (omega (arith, lo, d)) (t a))
+      ∙ before (omega (arith, lo, d)) (t a))
 ]
   where
     at_it : a ≡ p → (b : Bool) → with_part p (cond b (a ∷ filter t (range_with_len (a + 1) n)) (filter t (range_with_len (a + 1) n))) ≡ p
@@ -149,7 +162,7 @@ number_same : (s t : ℕ → Bool) (n : ℕ) → ((b : ℕ) → b < n → s b �
 number_same s t zero h = refl
 number_same s t (suc n) h =
     ap₂ (λ (b : Bool) (m : ℕ). (if b then 1 else 0) + 2 * m) (h 0 (omega arith))
-        (number_same (λ b. s (suc b)) (λ b. t (suc b)) n (λ b l. h (suc b) (omega (arith, l))))
+    (number_same (λ b. s (suc b)) (λ b. t (suc b)) n (λ b l. h (suc b) (omega (arith, l))))
 
 pub number_small : (bit : ℕ → Bool) (n : ℕ) → number_by bit n < 2 ^ n
 number_small bit zero = omega arith
@@ -164,8 +177,8 @@ number_of_bits zero w h = omega (arith, h)
 number_of_bits (suc n) w h =
     let small : w / 2 < 2 ^ n = omega (arith, h) in
     let rest : number_by (λ b. bit_at w (suc b) == 1) n ≡ w / 2 =
-        number_same (λ b. bit_at w (suc b) == 1) (λ b. bit_at (w / 2) b == 1) n (λ b l. ap (λ (x : ℕ). x == 1) (bit_at-suc w b))
-            ∙ number_of_bits n (w / 2) small in
+    number_same (λ b. bit_at w (suc b) == 1) (λ b. bit_at (w / 2) b == 1) n (λ b l. ap (λ (x : ℕ). x == 1) (bit_at-suc w b))
+    ∙ number_of_bits n (w / 2) small in
     let lowest : (if bit_at w 0 == 1 then 1 else 0) ≡ w % 2 = ap (λ (x : ℕ). if x == 1 then 1 else 0) (bit_at_lowest w) ∙ one_or_none (w % 2) (omega arith) in
     omega (arith, rest, lowest)
   where
@@ -182,7 +195,7 @@ pub words_again : (words : List ℕ) → length words ≡ 4 → ((k : ℕ) → k
 unfolding words_by
 words_again words l fits =
     same_components words (words_by (bits_set words)) (l ∙ sym (length-map-range_with_len (word_of (bits_set words)) 0 4))
-        (λ k m. at_word k (omega (arith, m, l)))
+    (λ k m. at_word k (omega (arith, m, l)))
   where
     same_bit : (k b : ℕ) → k < 4 → b < 64 → (bit_at (get_or words k 0) b == 1) ≡ list_any (λ part. part == 64 * k + b) (bits_set words)
     same_bit k b h m =
@@ -203,7 +216,7 @@ words_fit words parts e = (
   ap (λ (l : List ℕ). length l) e,
   λ k h. (let is : get_or words k 0 ≡ number_by (λ b. list_any (λ part. part == 64 * k + b) parts) 64 =
       ap (λ (l : List ℕ). get_or l k 0) e ∙ get_or-map-range_with_len (λ k. number_by (λ b. list_any (λ part. part == 64 * k + b) parts) 64) 0 4 k k 0 h
-          (omega arith) in
+      (omega arith) in
       let small = number_small (λ b. list_any (λ part. part == 64 * k + b) parts) 64 in
       omega (arith, is, small)),
 )
@@ -219,7 +232,7 @@ with_bit_fits words p l h fits = (length-set words (p / 64) _ ∙ l, λ k m. at_
     at_word : (k : ℕ) → k < 4 → (k ≡ p / 64) ⊎ (k ≡ p / 64 → ⊥) → get_or (with_bit words p) k 0 < 2 ^ 64
     at_word k m (inl e) =
         let is : get_or (with_bit words p) k 0 ≡ bit_or (get_or words (p / 64) 0) (1 * 2 ^ (p % 64) % 18446744073709551616) =
-            ap (λ (i : ℕ). get_or (with_bit words p) i 0) e ∙ get_or-set_same words (p / 64) _ 0 (omega (arith, l, m, e)) in
+        ap (λ (i : ℕ). get_or (with_bit words p) i 0) e ∙ get_or-set_same words (p / 64) _ 0 (omega (arith, l, m, e)) in
         let fit = or_lt 64 (get_or words (p / 64) 0) (1 * 2 ^ (p % 64) % 18446744073709551616) (fits (p / 64) (omega (arith, m, e))) small in
         omega (arith, is, fit)
     at_word k m (inr d) =

@@ -2,7 +2,7 @@
 
 ghost use Rattle.std.specs.List.{list_any};
 ghost use Rattle.std.specs.Prelude.{◌≡◌, ◌==◌, ◌<◌, []};
-ghost use Rattle.dm_event.specs.Parts.{with_part};
+ghost use Rattle.dm_event.specs.Parts.{with_part, in_order};
 
 use crate::{MAX_PARTS, Part};
 use std::marker::Model;
@@ -45,7 +45,8 @@ impl PartSet {
 
     pub fn holds(&self, part: Part) -> bool
         requires { part < MAX_PARTS }
-        ensures { result ≡ list_any (λ p. p == part) self.now }
+        ensures exact { result ≡ list_any (λ p. p == part) self.now }
+        ensures ascends { self.now ≡ in_order self.now }
     {
         (self.words[(part / 64) as usize] >> (part % 64)) & 1 == 1
     }
