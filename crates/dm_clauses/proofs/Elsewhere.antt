@@ -19,7 +19,7 @@ part_is layout key h = cond-true (nat_lt key (key_count layout)) _ _ h
 
 first_key : (layout : Layout) (past : List Step) (site key : ℕ) (ps : List ℕ)
     → find (λ p. not (may_begin_now (placing layout past p) site)) (key / layout.width ∷ ps) ≡ option_or (away layout past site key)
-        (find (λ p. not (may_begin_now (placing layout past p) site)) ps)
+    (find (λ p. not (may_begin_now (placing layout past p) site)) ps)
 first_key layout past site key ps = by_test (not (may_begin_now (placing layout past (key / layout.width)) site))
   where
     by_test : (b : Bool) → cond b (Some (key / layout.width)) (find (λ p. not (may_begin_now (placing layout past p) site)) ps)

@@ -56,7 +56,7 @@ module _ (layout : Layout) (past : List Step) (few : (q : ℕ) → epoch_now (pl
       (epoch_is (placing layout past part) (Asked site epoch to) (length past) h.asked (few part))
   few_kept site p (Some (pending.Grant part epoch vector)) h =
       few_granted site part epoch p (let f = epoch_is (placing layout past part) (Between h.from h.old site vector) (length past) h.between (few part) in
-          let g = h.next in omega (arith, f, g))
+      let g = h.next in omega (arith, f, g))
 
 -- there are no more epochs than steps
 pub few_epochs : (layout : Layout) (past : List Step) → LegalPast layout past → (p : ℕ) → epoch_now (placing layout past p) ≤ length past
@@ -64,11 +64,11 @@ few_epochs layout [] h p = omega arith
 few_epochs layout (Ask part epoch to txn ∷ past) h p =
     let f = few_epochs layout past h.0 p in
     either (part == p) (asked (placing layout past p) to) (placing layout past p) (suc (length past))
-        (let e = epoch_asked (placing layout past p) to in omega (arith, e, f)) (omega (arith, f))
+    (let e = epoch_asked (placing layout past p) to in omega (arith, e, f)) (omega (arith, f))
 few_epochs layout (Settle part epoch ∷ past) h p =
     let f = few_epochs layout past h.0 p in
     either (part == p) (settled (placing layout past p)) (placing layout past p) (suc (length past))
-        (let e = epoch_settled (placing layout past p) in omega (arith, e, f)) (omega (arith, f))
+    (let e = epoch_settled (placing layout past p) in omega (arith, e, f)) (omega (arith, f))
 few_epochs layout (Release site part epoch to vector ∷ past) h p =
     let legal = legal_release layout past site part epoch to vector h.1 in
     few_released layout past (few_epochs layout past h.0) site part epoch to p vector

@@ -67,17 +67,17 @@ homes_in layout [] h m p l = opening_in layout.sites layout.masters m p l
 homes_in layout (Ask part epoch to txn ∷ past) h m p l =
     let f = homes_in layout past h.0 m p l in
     either layout (part == p) (asked (placing layout past p) to) (placing layout past p)
-        (subst (InSites layout.sites) (sym (home_asked (placing layout past p) to)) f) f
+    (subst (InSites layout.sites) (sym (home_asked (placing layout past p) to)) f) f
 homes_in layout (Settle part epoch ∷ past) h m p l =
     let f = homes_in layout past h.0 m p l in
     either layout (part == p) (settled (placing layout past p)) (placing layout past p)
-        (subst (InSites layout.sites) (sym (home_settled (placing layout past p))) f) f
+    (subst (InSites layout.sites) (sym (home_settled (placing layout past p))) f) f
 homes_in layout (Release site part epoch to vector ∷ past) h m p l =
     either layout (part == p) (Between site epoch to vector) (placing layout past p)
     (let r = (legal_release layout past site part epoch to vector h.1).there in (r.one, r.top)) (homes_in layout past h.0 m p l)
 homes_in layout (Grant site part epoch vector ∷ past) h m p l =
     either layout (part == p) (Granted site epoch) (placing layout past p) (let r = (legal_grant layout past site part epoch vector h.1).here in (r.one, r.top))
-        (homes_in layout past h.0 m p l)
+    (homes_in layout past h.0 m p l)
 homes_in layout (Restart site vector Kept ∷ past) h m p l =
     kept_in layout site p (pending_at site past) (placing layout past p) (pending_shaped layout site past h.0) (homes_in layout past h.0 m p l)
 homes_in layout (Route txn want min at choice ∷ past) h m p l = homes_in layout past h.0 m p l

@@ -66,15 +66,15 @@ module _ (layout : Layout) (past : List Step) (session : ℕ) where
   reader_found k l h before =
       ap (λ (o : Option ℕ). unwrap_or o (1 + (session - 1) % layout.sites))
       (find_map (λ site. is_at_most (session_vector layout.sites past session) (site_vector layout.sites past site)) (around layout session)
-          (range_with_len 0 layout.sites)
+      (range_with_len 0 layout.sites)
       ∙ ap (λ (o : Option ℕ). option_map (around layout session) o) (find_first (has_seen layout past session) 0 layout.sites k (omega arith) (omega (arith, l))
-          h (λ j x y. before j y)))
+      h (λ j x y. before j y)))
 
   pub reader_none : ((j : ℕ) → j < layout.sites → has_seen layout past session j ≡ false) → reader_site layout past session ≡ around layout session 0
   reader_none before =
       ap (λ (o : Option ℕ). unwrap_or o (1 + (session - 1) % layout.sites))
       (find_map (λ site. is_at_most (session_vector layout.sites past session) (site_vector layout.sites past site)) (around layout session)
-          (range_with_len 0 layout.sites)
+      (range_with_len 0 layout.sites)
       ∙ ap (λ (o : Option ℕ). option_map (around layout session) o) (find_nothing (has_seen layout past session) 0 layout.sites
-          (λ j x y. before j (omega (arith, y)))))
+      (λ j x y. before j (omega (arith, y)))))
       ∙ ap (λ (n : ℕ). 1 + n % layout.sites) (own_first (session - 1))

@@ -59,7 +59,7 @@ routes_below : (layout : Layout) (past : List Step) → LegalPast layout past �
 routes_below layout [] h = tt
 routes_below layout (s ∷ past) h =
     each_option (Below (length layout.masters)) (declared_parts layout s) (filter_map (declared_parts layout) past)
-        (λ parts e. declared_below layout past s parts h.1 e) (routes_below layout past h.0)
+    (λ parts e. declared_below layout past s parts h.1 e) (routes_below layout past h.0)
 
 pub window_below : (layout : Layout) (past : List Step) → LegalPast layout past → Each (Below (length layout.masters)) (window_of layout past)
 window_below layout past h = each_take (Below (length layout.masters)) 256 (filter_map (declared_parts layout) past) (routes_below layout past h)
