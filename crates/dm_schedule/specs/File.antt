@@ -5,8 +5,8 @@ use Rattle.dm_event.specs.Layout.{Layout, is_layout}
 use Rattle.dm_event.specs.declared.why.LineFault.{LineFault}
 use Rattle.dm_event.specs.declared.why.LineFault.TheVariants.{Unfinished}
 use Rattle.dm_text.specs.Text.{words_of}
-use Rattle.dm_history.specs.declared.fault.HistoryError.{HistoryError}
-use Rattle.dm_history.specs.declared.fault.HistoryError.TheVariants as errors
+use Rattle.dm_schedule.specs.declared.error.HistoryError.{HistoryError}
+use Rattle.dm_schedule.specs.declared.error.HistoryError.TheVariants as errors
 use Rattle.dm_schedule.specs.declared.fault.LineError.{LineError}
 use Rattle.dm_schedule.specs.declared.fault.LineError.TheVariants as line_errors
 use Rattle.dm_schedule.specs.declared.file.Begun.{Begun}

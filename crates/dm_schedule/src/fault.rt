@@ -4,8 +4,8 @@ ghost use Rattle.std.specs.Prelude.{◌≡◌};
 ghost use Rattle.dm_schedule.specs.declared.fault.LineError.TheVariants.{Memory};
 ghost use Rattle.dm_schedule.specs.File.{at_line};
 
+use crate::error::HistoryError;
 use dm_event::{LineFault, NoMemory};
-use dm_history::HistoryError;
 use std::alloc::AllocFailed;
 
 /// Why a line could not be read: its first fault, or want of memory.

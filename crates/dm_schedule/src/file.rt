@@ -6,12 +6,12 @@ ghost use Rattle.dm_schedule.specs.Fields.{Fails, spelled};
 ghost use Rattle.dm_schedule.specs.Ranges.{Fits};
 ghost use Rattle.dm_schedule.specs.File.{is_skipped, after_line, ended, schedule_of, so_far, Reads, told, AllFit};
 
+use crate::error::HistoryError;
 use crate::fault::LineError;
 use crate::fields::word;
 use crate::line::Line;
 use crate::reading::{header_of, line_of};
 use dm_event::{LineFault, Schema};
-use dm_history::HistoryError;
 use dm_text::{lines_of, words};
 use std::alloc::Global;
 

@@ -8,7 +8,6 @@ use crate::name::Name;
 use crate::status::Status;
 use dm_disk::{Fetched, Sink, Source, Written, write_all};
 use dm_event::{MAX_FILE, NoMemory, Step};
-use dm_history::HistoryError;
 use dm_report::write_rest;
 use dm_schedule::{drive, read};
 use std::alloc::Global;

@@ -1,7 +1,7 @@
-//! Why the text of a history could not be read.
+//! Why a text could not be read.
 
 ghost use Rattle.std.specs.Prelude.{◌≡◌};
-ghost use Rattle.dm_history.specs.declared.fault.HistoryError.TheVariants.{Memory};
+ghost use Rattle.dm_schedule.specs.declared.error.HistoryError.TheVariants.{Memory};
 
 use dm_event::{LineFault, NoMemory};
 use std::alloc::{AllocError, AllocFailed};
