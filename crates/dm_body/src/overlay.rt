@@ -98,6 +98,25 @@ impl Overlay {
         }
     }
 
+    /// The ops so far.
+    pub fn ops(&self) -> &[Op]
+        ensures same { result.now ≡ self.now.ops }
+        ensures few { length result.now ≤ MAX_OPS }
+    {
+        &self.ops
+    }
+
+    /// A copy of what the ops have read and written so far.
+    pub fn to_ran(&self) -> Result<Ran, NoMemory>
+        ensures { IfOk result (λ ran. ran ≡ record { ops = self.now.ops; reads = self.now.ran.reads; writes = self.now.ran.writes }) }
+    {
+        Ok(Ran {
+            ops: Ops::new(self.ops.clone()?),
+            reads: Pairs::new(self.reads.clone()?),
+            writes: Pairs::new(self.writes.clone()?),
+        })
+    }
+
     /// What the ops have read and written. It takes no memory.
     pub fn into_ran(self) -> Ran
         ensures { result ≡ record { ops = self.ops; reads = self.ran.reads; writes = self.ran.writes } }

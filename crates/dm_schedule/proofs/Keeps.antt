@@ -15,7 +15,7 @@ use Rattle.dm_model.specs.Bodies.{has_writes}
 use Rattle.dm_schedule.specs.Drive.{Drive, extended, with_ops, judged, ops_of, is_declared, routed_of, running_of, outcome_due, next_txn, route_line}
 use Rattle.dm_schedule.specs.Drive.{begin_line, get_line, write_line, commit_line, reply_line, refresh_line, by_line}
 use Rattle.dm_schedule.specs.declared.answer.Answer.{Answer}
-use Rattle.dm_schedule.specs.declared.driving.Run.{Run}
+use Rattle.dm_schedule.specs.declared.driver.Run.{Run}
 use Rattle.dm_schedule.specs.declared.line.Line.{Line}
 use Rattle.dm_schedule.specs.declared.line.Line.TheVariants as lines
 

@@ -4,3 +4,6 @@ pub mod Keeps
 pub mod Lines
 pub mod Begins
 pub mod Shapes
+pub mod LastBegins
+pub mod BodiesKept
+pub mod DriversKept

@@ -31,7 +31,7 @@ use Rattle.dm_model.specs.Values.{value}
 use Rattle.dm_schedule.specs.Answers.{answer_text}
 use Rattle.dm_schedule.specs.declared.answer.Answer.{Answer}
 use Rattle.dm_schedule.specs.declared.answer.Answer.TheVariants as answers
-use Rattle.dm_schedule.specs.declared.driving.Run.{Run}
+use Rattle.dm_schedule.specs.declared.driver.Run.{Run}
 use Rattle.dm_schedule.specs.declared.line.Line.{Line}
 use Rattle.dm_schedule.specs.declared.line.Line.TheVariants as lines
 

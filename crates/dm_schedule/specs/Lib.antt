@@ -4,4 +4,4 @@ pub mod Reading
 pub mod File
 pub mod Answers
 pub mod Drive
-pub mod Driver
+pub mod Drivers

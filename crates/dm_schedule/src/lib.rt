@@ -2,14 +2,13 @@
 #![tactic(auto)]
 
 mod answer;
-mod done;
+mod driver;
 mod driving;
 mod fault;
 mod fields;
 mod file;
 mod line;
 mod reading;
-mod replay;
 mod view;
 
 pub use driving::drive;

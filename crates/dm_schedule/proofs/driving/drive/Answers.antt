@@ -2,7 +2,6 @@ use Rattle.std.proofs.Common.{◌≡◌, arith, ◌∙◌, ap, sym, subst, ◌++
 use Rattle.std.proofs.lemmas.List.{append-nil}
 use Rattle.std.proofs.lemmas.Result.{err_from_is_err_and}
 use Rattle.dm_schedule.specs.Drive.{Drive, driven, start}
-use Rattle.dm_schedule.specs.Driver.{seen}
 use Rattle.dm_schedule.proofs.Begins.{begins_further, begins_more, begins_same}
 use Rattle.dm_schedule.proofs.Keeps.{Keeps, line_keeps}
 use Rattle.dm_schedule.proofs.Lines.{history_more, answers_more, driven_end}
@@ -15,13 +14,11 @@ returns-in_err-answer-clause-answers c =
 
 pub loop-line-init : goal.loop-line-init
 loop-line-init c =
-    let e : seen c.in_ok-driver.driver ≡ start c.args.schedule.now.schema = c.in_ok-driver.ensures in
+    let e : c.in_ok-driver.driver ≡ start c.args.schedule.now.schema = c.in_ok-driver.ensures in
     let lines = c.args.schedule.now.lines.items in
-    let long = ap (λ (d : Drive). length d.ops) e in
     let none = ap (λ (d : Drive). length d.history) e in
     record {
       layout = ap (λ (d : Drive). d.layout) e;
-      ops = omega (arith, long, c.in_ok-driver.driver.ops.ok.0);
       steps = omega (arith, none);
       history = ap (λ (d : Drive). (driven d lines).0) e;
       answers = ap (λ (d : Drive). c.args.out.now.items ++ (driven d lines).1) e;
@@ -33,24 +30,23 @@ loop-line-preserved c =
     let before = c.loop-line.invariant in
     let lt = rw c.deref-line-items.ensures.value at c.loop-line-test.true in
     let at = rw c.deref-line-items.ensures.value at c.line-item.is in
-    let keeps = subst (λ (d : Drive). Keeps (seen c.loop-line.driver) d) (sym c.in_ok-answer.ensures.does)
-    (line_keeps (seen c.loop-line.driver) c.line-item.result) in
+    let keeps = subst (λ (d : Drive). Keeps c.loop-line.driver d) (sym c.in_ok-answer.ensures.does) (line_keeps c.loop-line.driver c.line-item.result) in
     record {
       layout = keeps.layout ∙ before.layout;
-      ops = omega (arith, keeps.ops, before.ops, c.answer.new.self.ops.ok.0, c.loop-line.driver.ops.ok.0);
       steps = omega (arith, keeps.steps, before.steps);
-      history = history_more (seen c.loop-line.driver) (seen c.answer.new.self) _ _ c.line-item.result lt at c.in_ok-answer.ensures.does _ before.history;
-      answers = answers_more (seen c.loop-line.driver) (seen c.answer.new.self) _ _ c.line-item.result lt at c.in_ok-answer.ensures.does c.loop-line.out.items _
-          _ c.in_ok-answer.ensures.answers before.answers;
+      history = history_more c.loop-line.driver c.answer.new.driver _ _ c.line-item.result lt at c.in_ok-answer.ensures.does _ before.history;
+      answers = answers_more c.loop-line.driver c.answer.new.driver _ _ c.line-item.result lt at c.in_ok-answer.ensures.does c.loop-line.out.items _ _
+          c.in_ok-answer.ensures.answers before.answers;
       begins = begins_more _ _ _ _ c.in_ok-answer.ensures.answers before.begins;
     }
 
 pub returns-clause-history : goal.returns-clause-history
 returns-clause-history c =
-    let end = driven_end (seen c.loop-line.driver) _ c.loop-line.line-index (rw c.deref-line-items.ensures.value at c.loop-line-test.false) in
-    sym (ap (λ (r : Drive × List ℕ). r.0.history) end) ∙ ap (λ (d : Drive). d.history) c.loop-line.invariant.history
+    let end = driven_end c.loop-line.driver _ c.loop-line.line-index (rw c.deref-line-items.ensures.value at c.loop-line-test.false) in
+    c.into_book.ensures.history
+    ∙ sym (ap (λ (r : Drive × List ℕ). r.0.history) end) ∙ ap (λ (d : Drive). d.history) c.loop-line.invariant.history
 
 pub returns-clause-answers : goal.returns-clause-answers
 returns-clause-answers c =
-    let end = driven_end (seen c.loop-line.driver) _ c.loop-line.line-index (rw c.deref-line-items.ensures.value at c.loop-line-test.false) in
+    let end = driven_end c.loop-line.driver _ c.loop-line.line-index (rw c.deref-line-items.ensures.value at c.loop-line-test.false) in
     sym (append-nil c.loop-line.out.items) ∙ sym (ap (λ (r : Drive × List ℕ). c.loop-line.out.items ++ r.1) end) ∙ c.loop-line.invariant.answers
