@@ -4,6 +4,7 @@
 mod answer;
 mod driver;
 mod driving;
+mod error;
 mod fault;
 mod fields;
 mod file;
@@ -12,5 +13,6 @@ mod reading;
 mod view;
 
 pub use driving::drive;
+pub use error::HistoryError;
 pub use file::{Schedule, read};
 pub use line::Line;

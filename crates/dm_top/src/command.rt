@@ -9,7 +9,7 @@ use crate::status::Status;
 use dm_disk::{Fetched, Sink, Source, Written, write_all};
 use dm_event::{MAX_FILE, NoMemory, Step};
 use dm_report::write_rest;
-use dm_schedule::{drive, read};
+use dm_schedule::{HistoryError, drive, read};
 use std::alloc::Global;
 
 /// What a command did.
