@@ -1,18 +1,17 @@
 -- When a list is the writes of ops.
 use Rattle.std.proofs.Common.{ℕ, ℤ, zero, suc, ◌+◌, ◌<◌, ◌≤◌, ◌≡◌, ◌≢◌, Bool, true, false, ◌==◌, nat_lt, cond, List, [], ◌∷◌, Option, Some, None, length}
-use Rattle.std.proofs.Common.{get_or, refl, sym, ap, ◌∙◌, subst, arith, inl, inr, ◌⊎◌, unwrap_or, int_eq, pos}
+use Rattle.std.proofs.Common.{get_or, refl, sym, ap, ◌∙◌, subst, arith, inl, inr, ◌⊎◌, unwrap_or, pos}
 use Rattle.std.specs.Prelude.{filter_map, is_some}
 use Rattle.std.specs.List.{list_all, IsAllAdjacentAnswer, AllAdjacentBelow}
 use Rattle.std.specs.Int.{w64, int_wrapping_add}
-use Rattle.std.proofs.lemmas.Bool.{ltb-true, lt-ltb, eqb-true, eq-eqb, ne_eqb, cases_eq, cases_lt, cases_order, cases_Bool, both_ways, cond-true, cond-false}
+use Rattle.std.proofs.lemmas.Bool.{ltb-true, lt-ltb, eq-eqb, ne_eqb, cases_eq, cases_lt, cases_order, cases_Bool, both_ways, cond-true, cond-false}
 use Rattle.std.proofs.lemmas.Bool.{and_parts, and_from, false≢true}
 use Rattle.std.proofs.lemmas.Bool.Decides.{Decides-int_eq}
-use lib.Pointwise.{pointwise_decides}
 use Rattle.dm_event.specs.declared.step.Pair.{Pair}
 use Rattle.dm_event.specs.declared.step.Op.{Op}
 use Rattle.dm_event.specs.declared.step.Op.TheVariants.{Read, Write, Add}
 use Rattle.dm_model.proofs.SameValues.{pairs_decide}
-use Rattle.dm_model.specs.Tests.{same_pair, same_pairs}
+use Rattle.dm_model.specs.Tests.{same_pairs}
 use Rattle.dm_model.specs.Values.{written}
 use Rattle.dm_model.specs.Bodies.{put, Ran, after_op, run_from, body, written_key}
 use Rattle.dm_body.proofs.Folds.{Rises, body_rises}

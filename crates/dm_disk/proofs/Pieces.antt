@@ -9,4 +9,4 @@ pub appended_more : (o mid new : Option (List ℕ)) (d n : ℕ) (t : List ℕ) �
 appended_more None mid new d n t e f = f ∙ ap (λ (m : Option (List ℕ)). appended m (take n (drop d t))) e
 appended_more (Some old) mid new d n t e f =
     f ∙ ap (λ (m : Option (List ℕ)). appended m (take n (drop d t))) e
-        ∙ ap (λ (x : List ℕ). Some x) (append_assoc old (take d t) (take n (drop d t)) ∙ ap (λ (x : List ℕ). old ++ x) (sym (take-add d n t)))
+    ∙ ap (λ (x : List ℕ). Some x) (append_assoc old (take d t) (take n (drop d t)) ∙ ap (λ (x : List ℕ). old ++ x) (sym (take-add d n t)))
