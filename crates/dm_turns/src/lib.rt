@@ -1,0 +1,6 @@
+//! Laws under a chronicle that threads share, and what comes of them. Their tests run threads.
+#![tactic(auto)]
+
+mod numbers;
+#[cfg(test)]
+mod tests;
