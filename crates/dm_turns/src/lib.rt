@@ -2,5 +2,6 @@
 #![tactic(auto)]
 
 mod numbers;
+mod sessions;
 #[cfg(test)]
 mod tests;
