@@ -3,7 +3,9 @@
 
 mod book;
 mod inside;
+mod law;
 mod noting;
 
 pub use book::Book;
 pub use dm_event::{Attempt, AttemptState, Placing};
+pub use law::{Chron, CorePass, Setting, lists_are_legal};

@@ -1,4 +1,5 @@
 -- Histories whose judgement is known, worked out by computation: what each definition gives on small examples.
+pub mod EightSteps
 pub mod Transactions
 pub mod HandOvers
 pub mod Restarts
