@@ -59,14 +59,16 @@ no_plus : (word : List ℕ) → begins_number word ≡ true → (get_or word 0 0
 no_plus [] e = absurd cc
 no_plus (c ∷ cs) e = (λ f. grind (arith, nat_tests), λ f. grind (arith, nat_tests))
 
-pub number_parsed : {E : Type 0} (most : ℕ) (word : List ℕ) (n : ℕ) (r : Result ℕ E) → begins_number word ≡ true → ParsesUnsigned 64 10 word r → r ≡ Ok n → (word ≡ decimal n) × (n < 2 ^ 64)
+pub number_parsed : {E : Type 0} (most : ℕ) (word : List ℕ) (n : ℕ) (r : Result ℕ E) → begins_number word ≡ true → ParsesUnsigned 64 10 word r → r ≡ Ok n
+    → (word ≡ decimal n) × (n < 2 ^ 64)
 number_parsed {E} most word n r b h e =
     let q = no_plus word b in
     let k = parse_plain own 64 word r h q.0 in
     let f : (AllDigits 10 word × (0 < length word) × (digits_value 10 word < 2 ^ 64)) × (n ≡ digits_value 10 word) = rw e at k in
     (sym (decimal-digits_value own word f.0.0 f.0.1 q.1 f.0.2) ∙ ap decimal (sym f.1), omega (arith, f.0.2, f.1))
 
-pub number_unparsed : {E : Type 0} (most : ℕ) (word : List ℕ) (r : Result ℕ E) (x : E) → most < 2 ^ 64 → begins_number word ≡ true → ParsesUnsigned 64 10 word r → r ≡ Err x → number_of most word ≡ None
+pub number_unparsed : {E : Type 0} (most : ℕ) (word : List ℕ) (r : Result ℕ E) (x : E) → most < 2 ^ 64 → begins_number word ≡ true → ParsesUnsigned 64 10 word r
+    → r ≡ Err x → number_of most word ≡ None
 number_unparsed {E} most word r x small b h e =
     let k = parse_plain own 64 word r h (no_plus word b).0 in
     let f : ¬ (AllDigits 10 word × (0 < length word) × (digits_value 10 word < 2 ^ 64)) = rw e at k in

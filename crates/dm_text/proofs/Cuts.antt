@@ -1,11 +1,11 @@
 -- The first line and the first word of a text.
-use Rattle.std.proofs.Common.{◌≡◌, refl, ℕ, ◌+◌, ◌<◌, ◌≤◌, List, [], ◌∷◌, take, drop, length, Bool, true, false, cond, arith}
-use Rattle.std.specs.Prelude.{Some, None, position, nat_lt, ◌==◌}
+use Rattle.std.proofs.Common.{◌≡◌, refl, ap, ℕ, ◌+◌, ◌<◌, ◌≤◌, List, [], ◌∷◌, take, drop, length, Bool, true, false, cond, arith}
+use Rattle.std.specs.Prelude.{Some, None, suc, position, nat_lt, filter, ◌==◌}
 use Rattle.std.specs.List.{slice_split, onto_first, position_or_len}
 use Rattle.std.specs.Str.Lines.{lines, strip_carriage_return}
 use Rattle.std.proofs.lemmas.List.Splits.{slice_split_first, slice_split_none}
 use Rattle.std.proofs.lemmas.List.Sums.{fails_before_first}
-use Rattle.std.proofs.lemmas.Bool.{ltb-true, ltb-false}
+use Rattle.std.proofs.lemmas.Bool.{ltb-true, ltb-false, lt-ltb}
 use Rattle.std.proofs.lemmas.Bool.Decides.{nat_tests}
 use Rattle.dm_text.specs.Text.{is_blank, words_of, with_first}
 
@@ -17,7 +17,8 @@ found_none : (b : Bool) (n : ℕ) → cond b (Some n) None ≡ None → b ≡ fa
 found_none true n e = absurd cc
 found_none false n e = refl
 
-pub split_at : (p : ℕ → Bool) (xs : List ℕ) (i : ℕ) → position p xs ≡ Some i → (i < length xs) × (slice_split p xs ≡ take i xs ∷ slice_split p (drop (i + 1) xs))
+pub split_at : (p : ℕ → Bool) (xs : List ℕ) (i : ℕ) → position p xs ≡ Some i → (i < length xs)
+    × (slice_split p xs ≡ take i xs ∷ slice_split p (drop (i + 1) xs))
 split_at p xs i e =
     let f = found_at (nat_lt (position_or_len p xs) (length xs)) (position_or_len p xs) i e in
     let lt : position_or_len p xs < length xs = ltb-true _ _ f.0 in
@@ -56,3 +57,23 @@ word_at text i e = rw ((split_at is_blank text i e).1) refl
 
 pub word_last : (text : List ℕ) → position is_blank text ≡ None → words_of text ≡ with_first text []
 word_last text e = rw (split_none is_blank text e) refl
+
+one_word : (word : List ℕ) (found : List (List ℕ)) → 0 < length word
+    → length (filter (λ w. nat_lt 0 (length w)) (word ∷ found)) ≡ suc (length (filter (λ w. nat_lt 0 (length w)) found))
+one_word word found h =
+    ap (λ (b : Bool). length (cond b (word ∷ filter (λ w. nat_lt 0 (length w)) found) (filter (λ w. nat_lt 0 (length w)) found))) (lt-ltb 0 (length word) h)
+
+-- a line has at most as many words as bytes
+pub few_words : (line : List ℕ) → length (words_of line) ≤ length line
+few_words [] = omega arith
+few_words (b ∷ line) = cut (is_blank b) (slice_split is_blank line) (few_words line)
+  where
+    cut : (blank : Bool) (found : List (List ℕ)) → length (filter (λ word. nat_lt 0 (length word)) found) ≤ length line
+        → length (filter (λ word. nat_lt 0 (length word)) (cond blank ([] ∷ found) (onto_first b found))) ≤ suc (length line)
+    cut true found h = omega (arith, h)
+    cut false [] h = omega arith
+    cut false ([] ∷ found) h = omega (arith, h)
+    cut false ((c ∷ part) ∷ found) h =
+        let one = one_word (b ∷ c ∷ part) found (omega arith) in
+        let same = one_word (c ∷ part) found (omega arith) in
+        omega (arith, h, one, same)

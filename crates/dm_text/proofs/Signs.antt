@@ -42,7 +42,8 @@ negated_is (Some (suc n)) z e = (n, refl, cc)
 same_word : (c d : ℕ) (cs ds : List ℕ) → c ≡ d → cs ≡ ds → c ∷ cs ≡ d ∷ ds
 same_word c d cs ds e f = cc
 
-signed_is_cases : (b : Bool) (c : ℕ) (cs : List ℕ) (z : ℤ) → (b ≡ true → c ≡ 45) → cond b (negated (number_of (2 ^ 63) cs)) (unsigned (number_of (2 ^ 63 - 1) (c ∷ cs))) ≡ Some z → (c ∷ cs ≡ signed_decimal z) × FitsSigned w64 z
+signed_is_cases : (b : Bool) (c : ℕ) (cs : List ℕ) (z : ℤ) → (b ≡ true → c ≡ 45)
+    → cond b (negated (number_of (2 ^ 63) cs)) (unsigned (number_of (2 ^ 63 - 1) (c ∷ cs))) ≡ Some z → (c ∷ cs ≡ signed_decimal z) × FitsSigned w64 z
 signed_is_cases true c cs z minus e =
     let k = negated_is (number_of (2 ^ 63) cs) z e in
     let n = k.0 in

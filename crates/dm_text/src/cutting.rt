@@ -68,20 +68,3 @@ pub(crate) fn first_part(text: &[u8]) -> (&[u8], &[u8])
         Some(end) => (&text[..end], &text[end + 1..]),
     }
 }
-
-/// The words of a line: its runs of bytes other than space and tab.
-pub fn words(alloc: Global, line: &[u8]) -> Result<Vec<&[u8]>, NoMemory>
-    ensures exact { IfOk result (λ found. map (λ word. word.now) found.items ≡ words_of line.now) }
-    ensures few { IfOk result (λ found. vec_len found ≤ length line.now) }
-{
-    let mut found = Vec::new(alloc);
-    let mut rest = line;
-    while !rest.is_empty() {
-        let (part, after) = first_part(rest);
-        if !part.is_empty() {
-            found.push(part)?;
-        }
-        rest = after;
-    }
-    Ok(found)
-}
