@@ -76,14 +76,14 @@ filter_same s t a zero h = refl
 filter_same s t a (suc n) h =
     ap₂ (λ (b : Bool) (rest : List ℕ). cond b (a ∷ rest) rest) (h a (omega arith)) (filter_same s t (a + 1) n (λ q l. h q (omega (arith, l))))
 
-with_below : (p x : ℕ) (xs : List ℕ) → x < p → with_part p (x ∷ xs) ≡ x ∷ with_part p xs
+pub with_below : (p x : ℕ) (xs : List ℕ) → x < p → with_part p (x ∷ xs) ≡ x ∷ with_part p xs
 with_below p x xs h = ap (λ (o : Option (List ℕ)). unwrap_or o (x ∷ xs)) (cond-true (nat_lt x p) _ _ (lt-ltb x p h)) ∙ by_case (with_key p xs)
   where
     by_case : (o : Option (List ℕ)) → unwrap_or (option_map (λ more. x ∷ more) o) (x ∷ xs) ≡ x ∷ unwrap_or o xs
     by_case None = refl
     by_case (Some ys) = refl
 
-with_same : (p : ℕ) (xs : List ℕ) → with_part p (p ∷ xs) ≡ p ∷ xs
+pub with_same : (p : ℕ) (xs : List ℕ) → with_part p (p ∷ xs) ≡ p ∷ xs
 with_same p xs =
     ap (λ (o : Option (List ℕ)). unwrap_or o (p ∷ xs)) (cond-false (nat_lt p p) _ _ (le-ltb p p (omega arith)) ∙ cond-true (p == p) _ _ (eq-eqb p p refl))
 

@@ -16,7 +16,7 @@ use Rattle.dm_model.specs.Legal.{LegalPast}
 use Rattle.dm_model.specs.Shape.{is_ascending}
 use Rattle.dm_model.specs.Tests.{is_among}
 use Rattle.dm_placement.proofs.Joined.{Below}
-use Rattle.dm_placement.proofs.Windows.{among_distinct}
+use Rattle.dm_placement.proofs.Distinct.{among_distinct}
 
 each_option : {X : Type 0} (P : X → Type 0) (o : Option X) (xs : List X) → ((x : X) → o ≡ Some x → P x) → Each P xs → Each P (cons_option o xs)
 each_option P None xs h k = k
