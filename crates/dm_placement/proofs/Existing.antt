@@ -37,7 +37,7 @@ key_below layout key h =
           ap (λ (n : ℕ). length layout.masters * n) (omega (arith, none)) in omega (arith, e, small))
     ]
 
-keys_below : (layout : Layout) (keys : List ℕ) → list_all (is_key layout) keys ≡ true → Below (length layout.masters) (parts_in_order layout keys)
+pub keys_below : (layout : Layout) (keys : List ℕ) → list_all (is_key layout) keys ≡ true → Below (length layout.masters) (parts_in_order layout keys)
 keys_below layout [] h p e = absurd (cc (e))
 keys_below layout (key ∷ keys) h p e =
     let parts = and_parts (is_key layout key) (list_all (is_key layout) keys) h in
