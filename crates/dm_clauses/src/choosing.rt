@@ -3,32 +3,32 @@
 ghost use Rattle.std.specs.Prelude.{ℕ, ◌≡◌, ◌==◌, ◌<◌, ◌≤◌, true, length, reverse, slice_index, List};
 ghost use Rattle.std.specs.List.{list_all};
 ghost use Rattle.dm_event.specs.Layout.{is_key, is_site};
-ghost use Rattle.dm_event.specs.Parts.{has_part};
 ghost use Rattle.dm_event.specs.Vectors.{is_at_most};
-ghost use Rattle.dm_model.specs.Choices.{choice_due, choose, home, parts_in_order, parts_of, reader_site, settled_site, window as window_of, writer_choice};
+ghost use Rattle.dm_model.specs.Choices.{choice_due, choose, home, parts_of, reader_site, settled_site, window as window_of, writer_choice};
 ghost use Rattle.dm_model.specs.Legal.{Legal};
 ghost use Rattle.dm_model.specs.Placings.{placing, settled_at};
 ghost use Rattle.dm_model.specs.Progress.{site_vector};
 ghost use Rattle.dm_model.specs.Sessions.{session_vector};
 ghost use Rattle.dm_model.specs.Tests.{is_among};
 ghost use Rattle.dm_placement.specs.Scored.{vector_in};
-ghost use Rattle.dm_placement.specs.Tells.{AreSetsOf};
 ghost use Rattle.dm_clauses.specs.Choosing.{is_settled, all_settled, around, has_seen};
 
 use dm_event::{
-    Choice, Key, MAX_PARTS, MAX_SITES, Part, PartSet, Placing, Schema, SiteNo, Step, Vector,
+    Choice, Key, Keys, MAX_PARTS, MAX_SITES, Part, PartSet, Placing, Schema, SiteNo, Step, Vector,
 };
 use dm_placement::{Window, choices_due, choose};
 use dm_plain::{placing, session_vector, site_vector};
 
 /// The set of the partitions of the keys.
-pub fn parts_of(schema: &Schema, keys: &[Key]) -> PartSet
+pub fn parts_of(schema: &Schema, keys: &Keys) -> PartSet
     requires { list_all (is_key schema.now) keys.now ≡ true }
-    ensures members { (p : ℕ) → has_part result p ≡ is_among (parts_in_order schema.now keys.now) p }
-    ensures within { (p : ℕ) → has_part result p ≡ true → p < length schema.now.masters }
+    ensures exact { result ≡ parts_of schema.now keys.now }
+    ensures within { (p : ℕ) → is_among result p ≡ true → p < length schema.now.masters }
 {
+    // The keys ascend, so that each partition stands at its place.
+    choices_due();
     let mut parts = PartSet::empty();
-    for key in keys {
+    for key in keys.as_slice() {
         match schema.part_of(*key) {
             Some(part) => parts.add(part),
             None => unreachable!(),
@@ -122,15 +122,15 @@ fn vectors(schema: &Schema, steps: &[Step]) -> [Vector; MAX_SITES as usize]
 }
 
 /// The site of greatest score for the partitions of the keys.
-fn best_site(schema: &Schema, steps: &[Step], window: &Window, keys: &[Key]) -> SiteNo
+fn best_site(schema: &Schema, steps: &[Step], window: &Window, keys: &Keys) -> SiteNo
     requires legal { Legal schema.now steps.now }
     requires keys { list_all (is_key schema.now) keys.now ≡ true }
-    requires window { AreSetsOf window.now (window_of schema.now (reverse steps.now)) }
+    requires window { window.now ≡ reverse (window_of schema.now (reverse steps.now)) }
     ensures { result ≡ choose schema.now (reverse steps.now) (parts_of schema.now keys.now) }
 {
     let homes = homes(schema, steps);
     let vectors = vectors(schema, steps);
-    // What is chosen by sets is what is due by the lists of partitions.
+    // What is chosen for these homes and vectors is what is due.
     choices_due();
     choose(
         window,
@@ -183,18 +183,18 @@ pub fn choice_due(
     steps: &[Step],
     window: &Window,
     session: u32,
-    keys: &[Key],
+    keys: &Keys,
 ) -> (SiteNo, Choice)
     requires legal { Legal schema.now steps.now }
     requires session { 1 ≤ session }
     requires keys { list_all (is_key schema.now) keys.now ≡ true }
-    requires window { AreSetsOf window.now (window_of schema.now (reverse steps.now)) }
+    requires window { window.now ≡ reverse (window_of schema.now (reverse steps.now)) }
     ensures { result ≡ choice_due schema.now (reverse steps.now) session keys.now }
 {
-    if keys.is_empty() {
+    if keys.as_slice().is_empty() {
         return (reader_site(schema, steps, session), Choice::Reader);
     }
-    match settled_site(schema, steps, keys) {
+    match settled_site(schema, steps, keys.as_slice()) {
         Some(site) => (site, Choice::Master),
         None => (best_site(schema, steps, window, keys), Choice::Best),
     }

@@ -11,7 +11,6 @@ ghost use Rattle.dm_model.specs.Choices.{due_for, window as window_of};
 ghost use Rattle.dm_model.specs.Clauses.{first};
 ghost use Rattle.dm_model.specs.Legal.{Legal};
 ghost use Rattle.dm_model.specs.Shape.{is_said, is_want, is_shaped};
-ghost use Rattle.dm_placement.specs.Tells.{AreSetsOf};
 ghost use Rattle.dm_clauses.specs.Judging.{away};
 
 use crate::choosing::choice_due;
@@ -47,11 +46,11 @@ fn due_for(
     requires legal { Legal schema.now steps.now }
     requires session { 1 ≤ session }
     requires want { is_want schema.now want.now ≡ true }
-    requires window { AreSetsOf window.now (window_of schema.now (reverse steps.now)) }
+    requires window { window.now ≡ reverse (window_of schema.now (reverse steps.now)) }
     ensures { result ≡ due_for schema.now (reverse steps.now) session want.now site }
 {
     match want {
-        Want::Txn(keys) => choice_due(schema, steps, window, session, keys.as_slice()),
+        Want::Txn(keys) => choice_due(schema, steps, window, session, keys),
         Want::Place(_) | Want::Restart => (site, Choice::Hand),
     }
 }
@@ -68,7 +67,7 @@ fn route_why(
 ) -> Option<Why>
     requires legal { Legal schema.now steps.now }
     requires shaped { is_shaped schema.now (Route txn want.now min.now site choice) ≡ true }
-    requires window { AreSetsOf window.now (window_of schema.now (reverse steps.now)) }
+    requires window { window.now ≡ reverse (window_of schema.now (reverse steps.now)) }
     ensures { result ≡ first (route_clauses schema.now (reverse steps.now) txn want.now min.now site choice) }
 {
     route_refusal(
@@ -306,7 +305,7 @@ fn doubt_why(schema: &Schema, steps: &[Step], site: SiteNo, pending: &Pending) -
 /// has the sets of partitions of the last Routes with declared keys.
 pub fn refusal(schema: &Schema, steps: &[Step], window: &Window, step: &Step) -> Option<Why>
     requires legal { Legal schema.now steps.now }
-    requires window { AreSetsOf window.now (window_of schema.now (reverse steps.now)) }
+    requires window { window.now ≡ reverse (window_of schema.now (reverse steps.now)) }
     ensures { result ≡ refusal schema.now (reverse steps.now) step.now }
 {
     if !is_shaped(schema, step) {

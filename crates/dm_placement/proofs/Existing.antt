@@ -16,7 +16,7 @@ use Rattle.dm_model.specs.Legal.{LegalPast}
 use Rattle.dm_model.specs.Shape.{is_ascending}
 use Rattle.dm_model.specs.Tests.{is_among}
 use Rattle.dm_placement.proofs.Joined.{Below}
-use Rattle.dm_placement.proofs.Windows.{among_distinct}
+use Rattle.dm_placement.proofs.Distinct.{among_distinct}
 
 each_option : {X : Type 0} (P : X → Type 0) (o : Option X) (xs : List X) → ((x : X) → o ≡ Some x → P x) → Each P xs → Each P (cons_option o xs)
 each_option P None xs h k = k
@@ -37,7 +37,7 @@ key_below layout key h =
           ap (λ (n : ℕ). length layout.masters * n) (omega (arith, none)) in omega (arith, e, small))
     ]
 
-keys_below : (layout : Layout) (keys : List ℕ) → list_all (is_key layout) keys ≡ true → Below (length layout.masters) (parts_in_order layout keys)
+pub keys_below : (layout : Layout) (keys : List ℕ) → list_all (is_key layout) keys ≡ true → Below (length layout.masters) (parts_in_order layout keys)
 keys_below layout [] h p e = absurd (cc (e))
 keys_below layout (key ∷ keys) h p e =
     let parts = and_parts (is_key layout key) (list_all (is_key layout) keys) h in

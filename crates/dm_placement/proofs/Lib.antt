@@ -1,5 +1,5 @@
 pub mod Totals
-pub mod Members
+pub mod Distinct
 pub mod Tallies
 pub mod Needs
 pub mod Evens

@@ -1,18 +1,18 @@
 -- What the homes of wanted partitions have, and what a site lacks of it.
-use Rattle.std.proofs.Common.{ℕ, zero, suc, ◌+◌, ◌-◌, ◌*◌, ◌<◌, ◌≤◌, ◌≡◌, Bool, true, false, cond, List, [], ◌∷◌, ◌++◌, length, get_or, refl, sym, ap, ◌∙◌}
+use Rattle.std.proofs.Common.{ℕ, zero, suc, ◌+◌, ◌-◌, ◌<◌, ◌≤◌, ◌≡◌, Bool, true, false, cond, List, [], ◌∷◌, ◌++◌, length, get_or, refl, sym, ap, ◌∙◌}
 use Rattle.std.proofs.Common.{arith, add-one, max}
 use Rattle.std.specs.List.{range_with_len, filter, sum_by}
-use Rattle.std.specs.Prelude.{map, replicate}
+use Rattle.std.specs.Prelude.{map, replicate, ◌||◌}
+use Rattle.std.proofs.lemmas.Bool.{eq-eqb}
 use Rattle.std.proofs.lemmas.List.{map-append, append-nil}
 use Rattle.std.proofs.lemmas.List.Elements.{filter-append}
 use Rattle.std.proofs.lemmas.List.Sums.{sum_by_push}
-use Rattle.dm_event.specs.Parts.{has_part}
+use Rattle.dm_event.specs.Parts.{in_order}
 use Rattle.dm_event.specs.Vectors.{at, sites_to, vector_by, greatest, join, join_all}
 use Rattle.dm_event.proofs.Components.{at_join, same_components, zeros_from, long_join}
 use Rattle.dm_model.proofs.VectorFacts.{at_by, long_by}
-use Rattle.dm_placement.specs.Sets.{parts_in}
+use Rattle.dm_model.specs.Tests.{is_among}
 use Rattle.dm_placement.proofs.Totals.{range_more}
-use Rattle.dm_placement.proofs.Members.{none_past}
 
 -- ---- the greatest of vectors, one vector more at the end
 
@@ -78,14 +78,17 @@ filter_past t n (suc k) h =
     ∙ filter_past t n k h
 
 -- where a set holds none past the first partitions, they are all
-pub parts_below : (words : List ℕ) (parts : ℕ) → ((p : ℕ) → has_part words p ≡ true → p < parts)
-    → filter (has_part words) (range_with_len 0 parts) ≡ parts_in words
-parts_below words parts below =
-    sym (filter_past (has_part words) parts (64 * length words) (λ j h. fails j h (has_part words j) refl))
-    ∙ ap (λ (m : ℕ). filter (has_part words) (range_with_len 0 m)) (let e : parts + 64 * length words ≡ 64 * length words + parts = omega arith in e)
-    ∙ filter_past (has_part words) (64 * length words) parts (λ j h. none_past words j h)
+pub parts_below : (wanted : List ℕ) (parts : ℕ) → parts ≤ 256 → ((p : ℕ) → is_among wanted p ≡ true → p < parts) → (1 ≤ parts → wanted ≡ in_order wanted)
+    → filter (is_among wanted) (range_with_len 0 parts) ≡ wanted
+parts_below [] zero few below ordered = refl
+parts_below (x ∷ wanted) zero few below ordered =
+    absurd (let l = below x (ap (λ (b : Bool). b || is_among wanted x) (eq-eqb x x refl)) in omega (arith, l))
+parts_below wanted (suc parts) few below ordered =
+    sym (filter_past (is_among wanted) (suc parts) (256 - suc parts) (λ j h. fails j h (is_among wanted j) refl))
+    ∙ ap (λ (n : ℕ). filter (is_among wanted) (range_with_len 0 n)) (let e : suc parts + (256 - suc parts) ≡ 256 = omega (arith, few) in e)
+    ∙ sym (ordered (omega arith))
   where
-    fails : (j : ℕ) → parts ≤ j → (b : Bool) → has_part words j ≡ b → has_part words j ≡ false
+    fails : (j : ℕ) → suc parts ≤ j → (b : Bool) → is_among wanted j ≡ b → is_among wanted j ≡ false
     fails j h true e = absurd (let l = below j e in omega (arith, l, h))
     fails j h false e = e
 

@@ -1,17 +1,16 @@
 -- Counts for each site, made in one pass over the partitions.
-use Rattle.std.proofs.Common.{ℕ, zero, suc, ◌+◌, ◌-◌, ◌*◌, ◌<◌, ◌≤◌, ◌≡◌, ◌≢◌, Bool, true, false, cond, List, [], ◌∷◌, length, get_or, set, refl, sym, ap, ◌∙◌}
+use Rattle.std.proofs.Common.{ℕ, zero, suc, ◌+◌, ◌-◌, ◌<◌, ◌≤◌, ◌≡◌, ◌≢◌, Bool, true, false, cond, List, [], ◌∷◌, length, get_or, set, refl, sym, ap, ap₂}
+use Rattle.std.proofs.Common.{◌∙◌}
 use Rattle.std.proofs.Common.{arith, inl, inr, get_or-set_same, get_or-set_other}
 use Rattle.std.specs.List.{range_with_len, filter, count_by, sum_by, list_any}
-use Rattle.std.specs.Prelude.{◌&&◌, ◌||◌, ◌==◌, not, if◌then◌else◌, nat_lt, ◌⊎◌}
-use Rattle.std.proofs.lemmas.Bool.{cases_eq, eq-eqb, ne_eqb, lt-ltb}
+use Rattle.std.specs.Prelude.{◌&&◌, ◌||◌, ◌==◌, not, if◌then◌else◌, ◌⊎◌}
+use Rattle.std.proofs.lemmas.Bool.{cases_eq, cases_lt, eq-eqb, ne_eqb}
 use Rattle.std.proofs.lemmas.List.{get_or_past}
 use Rattle.std.proofs.lemmas.List.Sums.{sum_by-cons}
-use Rattle.dm_event.specs.Parts.{has_part}
+use Rattle.dm_event.specs.Parts.{in_order}
 use Rattle.dm_model.specs.Tests.{is_among}
 use Rattle.dm_placement.specs.Scored.{home_in}
-use Rattle.dm_placement.specs.Sets.{parts_in}
-use Rattle.dm_placement.proofs.Totals.{total, total_more, total_filter, total_to, same_total, sum_range, sum_filter, sum_same}
-use Rattle.dm_placement.proofs.Members.{among_parts, none_past}
+use Rattle.dm_placement.proofs.Totals.{total, total_more, total_filter, total_to, same_total}
 
 -- the site is the partition's home
 abbrev pub is_home : List ℕ → ℕ → ℕ → Bool
@@ -19,11 +18,11 @@ is_home homes site p = home_in homes p == site
 
 -- the same, and the partition isn't wanted
 abbrev pub stays : List ℕ → List ℕ → ℕ → ℕ → Bool
-stays wanted homes site p = (home_in homes p == site) && not (has_part wanted p)
+stays wanted homes site p = (home_in homes p == site) && not (is_among wanted p)
 
 -- the set holds the partition, which isn't wanted and has its home at the site
 abbrev pub is_other : List ℕ → List ℕ → List ℕ → ℕ → ℕ → Bool
-is_other set wanted homes site p = has_part set p && (not (has_part wanted p) && (home_in homes p == site))
+is_other set wanted homes site p = is_among set p && (not (is_among wanted p) && (home_in homes p == site))
 
 and_false : (b : Bool) → (b && false) ≡ false
 and_false true = refl
@@ -82,16 +81,19 @@ set_bound (x ∷ xs) zero v (suc k) b h g = g
 set_bound (x ∷ xs) (suc i) v zero b h g = g
 set_bound (x ∷ xs) (suc i) v (suc k) b h g = set_bound xs i v k b h g
 
+-- one more is counted at a place
+pub one_added : (xs : List ℕ) (i k base n : ℕ) → get_or xs k 0 ≤ base + n → get_or (set xs i (get_or xs i 0 + 1)) k 0 ≤ base + (n + 1)
+one_added xs i k base n h = elim (cases_eq k i) [
+  | inl e ↦ (let same : get_or xs i 0 ≡ get_or xs k 0 = ap (λ (j : ℕ). get_or xs j 0) (sym e) in
+      set_bound xs i (get_or xs i 0 + 1) k (base + (n + 1)) (omega (arith, same, h)) (omega (arith, h)))
+  | inr d ↦ (let other = get_or-set_other xs i k (get_or xs i 0 + 1) 0 d in omega (arith, other, h))
+]
+
 -- past the last partition there is no home
 pub no_home : (homes : List ℕ) (site p : ℕ) → 1 ≤ site → length homes ≤ p → (home_in homes p == site) ≡ false
 no_home homes site p lo past = ne_eqb (get_or homes p 0) site (λ e. let none = get_or_past homes p 0 past in omega (arith, e, none, lo))
 
 -- ---- loads in one pass
-
-pub sum_test : (f : ℕ → ℕ) (s t : ℕ → Bool) (xs : List ℕ) → ((p : ℕ) → s p ≡ t p) → sum_by f (filter s xs) ≡ sum_by f (filter t xs)
-sum_test f s t xs same =
-    sum_filter f s xs ∙ sum_same (λ p. if s p then f p else 0) (λ p. if t p then f p else 0) xs (λ p. ap (λ (b : Bool). if b then f p else 0) (same p))
-    ∙ sym (sum_filter f t xs)
 
 -- from nothing on, the counts are the sums of f over the partitions that pass
 pub tally_sums : (q : ℕ → ℕ → Bool) (f : ℕ → ℕ) (counts : List ℕ) (n m : ℕ) → Tallied (λ i. 0) q f counts n → n ≡ m
@@ -101,30 +103,32 @@ tally_sums q f counts n m t e site lo hi =
     let whole = total_filter f (q site) m in
     omega (arith, all, whole)
 
--- the same for the partitions that stay, as they are listed
-pub tally_others : (wanted homes : List ℕ) (f : ℕ → ℕ) (counts : List ℕ) (n m : ℕ) → Tallied (λ i. 0) (stays wanted homes) f counts n → n ≡ m
-    → (site : ℕ) → 1 ≤ site → site ≤ 8 → get_or counts (site - 1) 0 ≡ sum_by f
-    (filter (λ p. (home_in homes p == site) && not (is_among (parts_in wanted) p)) (range_with_len 0 m))
-tally_others wanted homes f counts n m t e site lo hi =
-    tally_sums (stays wanted homes) f counts n m t e site lo hi
-    ∙ sum_test f (stays wanted homes site) (λ p. (home_in homes p == site) && not (is_among (parts_in wanted) p)) (range_with_len 0 m)
-    (λ p. ap (λ (b : Bool). (home_in homes p == site) && not b) (sym (among_parts wanted p)))
-
-pub tally_wanted : (wanted : List ℕ) (f : ℕ → ℕ) (moving n m : ℕ) → moving ≡ total (λ p. if has_part wanted p then f p else 0) n → n ≡ m
-    → moving ≡ sum_by f (filter (is_among (parts_in wanted)) (range_with_len 0 m))
+pub tally_wanted : (wanted : List ℕ) (f : ℕ → ℕ) (moving n m : ℕ) → moving ≡ total (λ p. if is_among wanted p then f p else 0) n → n ≡ m
+    → moving ≡ sum_by f (filter (is_among wanted) (range_with_len 0 m))
 tally_wanted wanted f moving n m is e =
-    is ∙ ap (total (λ p. if has_part wanted p then f p else 0)) e ∙ sym (total_filter f (has_part wanted) m)
-    ∙ sum_test f (has_part wanted) (is_among (parts_in wanted)) (range_with_len 0 m) (λ p. sym (among_parts wanted p))
+    is ∙ ap (total (λ p. if is_among wanted p then f p else 0)) e ∙ sym (total_filter f (is_among wanted) m)
 
-pub it_stays : (wanted homes : List ℕ) (n site : ℕ) → has_part wanted n ≡ false → stays wanted homes site n ≡ (home_in homes n == site)
+pub it_stays : (wanted homes : List ℕ) (n site : ℕ) → is_among wanted n ≡ false → stays wanted homes site n ≡ (home_in homes n == site)
 it_stays wanted homes n site e = ap (λ (b : Bool). (home_in homes n == site) && not b) e ∙ and_true (home_in homes n == site)
   where
     and_true : (b : Bool) → (b && true) ≡ b
     and_true true = refl
     and_true false = refl
 
-pub it_moves : (wanted homes : List ℕ) (n site : ℕ) → has_part wanted n ≡ true → stays wanted homes site n ≡ false
+pub it_moves : (wanted homes : List ℕ) (n site : ℕ) → is_among wanted n ≡ true → stays wanted homes site n ≡ false
 it_moves wanted homes n site e = ap (λ (b : Bool). (home_in homes n == site) && not b) e ∙ and_false (home_in homes n == site)
+
+-- a partition of the set that isn't wanted counts at its home, and no other partition counts
+pub it_counts : (set wanted homes : List ℕ) (n site : ℕ) → is_among set n ≡ true → is_among wanted n ≡ false
+    → is_other set wanted homes site n ≡ (home_in homes n == site)
+it_counts set wanted homes n site e f = ap₂ (λ (a b : Bool). a && (not b && (home_in homes n == site))) e f
+
+pub it_fails : (set wanted homes : List ℕ) (n site : ℕ) → is_among set n ≡ false → is_other set wanted homes site n ≡ false
+it_fails set wanted homes n site e = ap (λ (a : Bool). a && (not (is_among wanted n) && (home_in homes n == site))) e
+
+pub it_is_wanted : (set wanted homes : List ℕ) (n site : ℕ) → is_among wanted n ≡ true → is_other set wanted homes site n ≡ false
+it_is_wanted set wanted homes n site e =
+    ap (λ (b : Bool). is_among set n && (not b && (home_in homes n == site))) e ∙ and_false (is_among set n)
 
 pub one_passes : (t : ℕ → Bool) (f : ℕ → ℕ) (n m w : ℕ) → m ≡ total (λ p. if t p then f p else 0) n → t n ≡ true → w ≡ f n
     → m + w ≡ total (λ p. if t p then f p else 0) (n + 1)
@@ -141,56 +145,89 @@ one_fails t f n m before fails =
 
 -- ---- what a set has beside the wanted partitions
 
-pub others_counted : (set wanted homes : List ℕ) (site : ℕ) → 1 ≤ site
-    → count_by (λ p. not (is_among (parts_in wanted) p) && (home_in homes p == site)) (parts_in set) ≡ total
-    (λ p. if is_other set wanted homes site p then 1 else 0) (length homes)
-others_counted set wanted homes site lo =
-    total_filter (λ p. cond (not (is_among (parts_in wanted) p) && (home_in homes p == site)) 1 0) (has_part set) (64 * length set)
-    ∙ same_total (λ k. if has_part set k then cond (not (is_among (parts_in wanted) k) && (home_in homes k == site)) 1 0 else 0)
-    (λ p. if is_other set wanted homes site p then 1 else 0) (64 * length set)
-    (λ k l. ap (λ (b : Bool). if has_part set k then cond (not b && (home_in homes k == site)) 1 0 else 0) (among_parts wanted k)
-    ∙ nested (has_part set k) (not (has_part wanted k) && (home_in homes k == site)))
-    ∙ total_to (λ p. if is_other set wanted homes site p then 1 else 0) (64 * length set) (length homes)
-    (λ j h. ap (λ (b : Bool). if b && (not (has_part wanted j) && (home_in homes j == site)) then 1 else 0) (none_past set j h))
-    (λ j h. ap (λ (b : Bool). if has_part set j && (not (has_part wanted j) && b) then 1 else 0) (no_home homes site j lo h)
-    ∙ ap (λ (b : Bool). if has_part set j && b then 1 else 0) (and_false (not (has_part wanted j)))
-    ∙ ap (λ (b : Bool). if b then 1 else 0) (and_false (has_part set j)))
+count_none : (t : ℕ → Bool) (xs : List ℕ) → ((p : ℕ) → t p ≡ false) → count_by t xs ≡ 0
+count_none t [] h = refl
+count_none t (x ∷ xs) h =
+    sum_by-cons (λ y. cond (t y) 1 0) x xs ∙ ap₂ (λ (b : Bool) (n : ℕ). cond b 1 0 + n) (h x) (count_none t xs h)
+
+-- an ascending set has each of its partitions once
+pub others_counted : (set wanted homes : List ℕ) (site : ℕ) → 1 ≤ site → length homes ≤ 256 → (1 ≤ length homes → set ≡ in_order set)
+    → count_by (λ p. not (is_among wanted p) && (home_in homes p == site)) set ≡ total (λ p. if is_other set wanted homes site p then 1 else 0) (length homes)
+others_counted set wanted homes site lo few ordered = elim (cases_lt 0 (length homes)) [
+  | inl some ↦
+      (ap (λ (xs : List ℕ). count_by other xs) (ordered (omega (arith, some)))
+      ∙ total_filter (λ p. cond (other p) 1 0) (is_among set) 256
+      ∙ same_total (λ p. if is_among set p then cond (other p) 1 0 else 0) (λ p. if is_other set wanted homes site p then 1 else 0) 256
+      (λ p l. nested (is_among set p) (other p))
+      ∙ total_to (λ p. if is_other set wanted homes site p then 1 else 0) 256 (length homes) (λ p h. none p (omega (arith, few, h))) none)
+  | inr empty ↦
+      (count_none other set (λ p. away p (omega (arith, empty)))
+      ∙ ap (total (λ p. if is_other set wanted homes site p then 1 else 0)) (let e : 0 ≡ length homes = omega (arith, empty) in e))
+]
   where
+    other : ℕ → Bool
+    other p = not (is_among wanted p) && (home_in homes p == site)
+
+    away : (p : ℕ) → length homes ≤ p → other p ≡ false
+    away p h = ap (λ (b : Bool). not (is_among wanted p) && b) (no_home homes site p lo h) ∙ and_false (not (is_among wanted p))
+
+    none : (p : ℕ) → length homes ≤ p → ◌≡◌ {A = ℕ} (if is_other set wanted homes site p then 1 else 0) 0
+    none p h = ap (λ (b : Bool). if is_among set p && b then 1 else 0) (away p h) ∙ ap (λ (b : Bool). if b then 1 else 0) (and_false (is_among set p))
+
     nested : (a b : Bool) → ◌≡◌ {A = ℕ} (if a then cond b 1 0 else 0) (if a && b then 1 else 0)
     nested true b = refl
     nested false b = refl
 
 -- ---- whether a set meets the wanted one
 
-pub any_count : {X : Type 0} (t : X → Bool) (xs : List X) → list_any t xs ≡ nat_lt 0 (count_by t xs)
-any_count t [] = refl
-any_count t (x ∷ xs) = at_head (t x) (any_count t xs) ∙ ap (λ (n : ℕ). nat_lt 0 n) (sym (sum_by-cons (λ y. cond (t y) 1 0) x xs))
-  where
-    at_head : (b : Bool) → list_any t xs ≡ nat_lt 0 (count_by t xs) → (b || list_any t xs) ≡ nat_lt 0 (cond b 1 0 + count_by t xs)
-    at_head true rest = sym (lt-ltb 0 (1 + count_by t xs) (omega arith))
-    at_head false rest = rest ∙ ap (λ (n : ℕ). nat_lt 0 n) (let e : count_by t xs ≡ 0 + count_by t xs = omega arith in e)
+module _ (t : ℕ → Bool) where
+  one_past : (x a n : ℕ) → x < a → list_any (λ p. t p && (x == p)) (range_with_len a n) ≡ false
+  one_past x a zero h = refl
+  one_past x a (suc n) h =
+      ap₂ (λ (b c : Bool). b || c) (ap (λ (b : Bool). t a && b) (ne_eqb x a (λ e. omega (arith, e, h))) ∙ and_false (t a))
+      (one_past x (a + 1) n (omega (arith, h)))
 
-pub meets_is : (set wanted : List ℕ) (parts : ℕ) → ((p : ℕ) → has_part wanted p ≡ true → p < parts)
-    → list_any (λ p. has_part set p && has_part wanted p) (range_with_len 0 parts) ≡ list_any (is_among (parts_in set)) (parts_in wanted)
-meets_is set wanted parts below =
-    any_count (λ p. has_part set p && has_part wanted p) (range_with_len 0 parts)
-    ∙ ap (λ (n : ℕ). nat_lt 0 n) (sum_range (λ p. cond (has_part set p && has_part wanted p) 1 0) parts
-    ∙ total_to (λ p. cond (has_part set p && has_part wanted p) 1 0) parts (64 * length wanted)
-    (λ j h. ap (λ (b : Bool). cond (has_part set j && b) 1 0) (none_above j h (has_part wanted j) refl)
-    ∙ ap (λ (b : Bool). cond b 1 0) (and_false (has_part set j)))
-    (λ j h. ap (λ (b : Bool). cond (has_part set j && b) 1 0) (none_past wanted j h) ∙ ap (λ (b : Bool). cond b 1 0) (and_false (has_part set j)))
-    ∙ same_total (λ p. cond (has_part set p && has_part wanted p) 1 0) (λ k. if has_part wanted k then cond (is_among (parts_in set) k) 1 0 else 0)
-    (64 * length wanted)
-    (λ k l. turned (has_part set k) (has_part wanted k) ∙ ap (λ (b : Bool). if has_part wanted k then cond b 1 0 else 0) (sym (among_parts set k)))
-    ∙ sym (total_filter (λ p. cond (is_among (parts_in set) p) 1 0) (has_part wanted) (64 * length wanted)))
-    ∙ sym (any_count (is_among (parts_in set)) (parts_in wanted))
-  where
-    turned : (a b : Bool) → ◌≡◌ {A = ℕ} (cond (a && b) 1 0) (if b then cond a 1 0 else 0)
-    turned true true = refl
-    turned true false = refl
-    turned false true = refl
-    turned false false = refl
+  -- one number of the range
+  one_there : (x a n : ℕ) → a ≤ x → x < a + n → list_any (λ p. t p && (x == p)) (range_with_len a n) ≡ t x
+  one_there x a zero h l = absurd (omega (arith, h, l))
+  one_there x a (suc n) h l = elim (cases_eq x a) [
+    | inl e ↦ (ap₂ (λ (b c : Bool). (t a && b) || c) (eq-eqb x a e) (one_past x (a + 1) n (omega (arith, e))) ∙ alone (t a) ∙ ap t (sym e))
+    | inr d ↦ (ap₂ (λ (b c : Bool). b || c) (ap (λ (b : Bool). t a && b) (ne_eqb x a d) ∙ and_false (t a))
+        (one_there x (a + 1) n (omega (arith, h, d)) (omega (arith, l))))
+  ]
+    where
+      alone : (b : Bool) → ((b && true) || false) ≡ b
+      alone true = refl
+      alone false = refl
 
-    none_above : (j : ℕ) → parts ≤ j → (b : Bool) → has_part wanted j ≡ b → has_part wanted j ≡ false
-    none_above j h true e = absurd (let l = below j e in omega (arith, l, h))
-    none_above j h false e = e
+  -- one number or another
+  either_there : (r s : ℕ → Bool) (ps : List ℕ)
+      → list_any (λ p. t p && (r p || s p)) ps ≡ (list_any (λ p. t p && r p) ps || list_any (λ p. t p && s p) ps)
+  either_there r s [] = refl
+  either_there r s (p ∷ ps) =
+      ap (λ (b : Bool). (t p && (r p || s p)) || b) (either_there r s ps)
+      ∙ mixed (t p) (r p) (s p) (list_any (λ p. t p && r p) ps) (list_any (λ p. t p && s p) ps)
+    where
+      mixed : (a b c d e : Bool) → ((a && (b || c)) || (d || e)) ≡ (((a && b) || d) || ((a && c) || e))
+      mixed true true c d e = refl
+      mixed true false true true e = refl
+      mixed true false true false e = refl
+      mixed true false false d e = refl
+      mixed false b c d e = refl
+
+  none_there : (ps : List ℕ) → list_any (λ p. t p && false) ps ≡ false
+  none_there [] = refl
+  none_there (p ∷ ps) = ap₂ (λ (b c : Bool). b || c) (and_false (t p)) (none_there ps)
+
+  pub listed_there : (wanted : List ℕ) (parts : ℕ) → ((p : ℕ) → is_among wanted p ≡ true → p < parts)
+      → list_any (λ p. t p && is_among wanted p) (range_with_len 0 parts) ≡ list_any t wanted
+  listed_there [] parts below = none_there (range_with_len 0 parts)
+  listed_there (x ∷ wanted) parts below =
+      either_there (λ p. x == p) (is_among wanted) (range_with_len 0 parts)
+      ∙ ap₂ (λ (b c : Bool). b || c)
+      (one_there x 0 parts (omega arith) (let l = below x (ap (λ (b : Bool). b || is_among wanted x) (eq-eqb x x refl)) in omega (arith, l)))
+      (listed_there wanted parts (λ p e. below p (more (x == p) (is_among wanted p) e)))
+    where
+      more : (b c : Bool) → c ≡ true → (b || c) ≡ true
+      more true c e = refl
+      more false c e = e

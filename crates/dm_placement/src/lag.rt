@@ -3,7 +3,6 @@
 ghost use Rattle.std.specs.Prelude.{◌≡◌, ◌+◌, ◌-◌, ◌*◌, ◌^◌, ◌<◌, ◌≤◌, All, length, map, sum_by};
 ghost use Rattle.dm_event.specs.Vectors.{at, join_all, sites_to};
 ghost use Rattle.dm_placement.specs.Scored.{home_in, vector_in, AreSites, HaveHomes};
-ghost use Rattle.dm_placement.specs.Sets.{parts_in};
 
 use dm_event::{MAX_PARTS, MAX_SITES, Part, PartSet, SiteNo, Vector};
 
@@ -14,7 +13,7 @@ pub(crate) fn need(homes: &[SiteNo], vectors: &[Vector], wanted: &PartSet) -> Ve
     requires components { All (λ vector. length vector ≡ length vectors.now) vectors.now }
     requires homes { AreSites (length vectors.now) homes.now }
     requires wanted_homes { HaveHomes (length homes.now) wanted.now }
-    ensures { result ≡ join_all (length vectors.now) (map (λ p. vector_in vectors.now (home_in homes.now p)) (parts_in wanted.now)) }
+    ensures { result ≡ join_all (length vectors.now) (map (λ p. vector_in vectors.now (home_in homes.now p)) wanted.now) }
 {
     let mut need = Vector::zeros(vectors.len() as u8);
     for (index, home) in homes.iter().enumerate() {

@@ -1,10 +1,9 @@
 //! How even the use of the sites is.
 
-ghost use Rattle.std.specs.Prelude.{◌≡◌, ℕ, ◌+◌, ◌-◌, ◌*◌, ◌^◌, ◌<◌, ◌≤◌, length, map, nat_abs, pos, ◌-ℤ◌, sum, sum_by, slice_index, slice_set};
+ghost use Rattle.std.specs.Prelude.{◌≡◌, ℕ, ◌+◌, ◌-◌, ◌*◌, ◌^◌, ◌<◌, ◌≤◌, length, nat_abs, pos, ◌-ℤ◌, sum, sum_by, slice_index, slice_set};
 ghost use Rattle.dm_model.specs.Scores.{load};
 ghost use Rattle.dm_placement.specs.Loads.{other_load, wanted_load};
 ghost use Rattle.dm_placement.specs.Scored.{home_in, AreSites, HaveHomes};
-ghost use Rattle.dm_placement.specs.Sets.{parts_in};
 
 use crate::Window;
 use dm_event::{MAX_PARTS, MAX_SITES, Part, PartSet, SiteNo, WINDOW};
@@ -24,9 +23,9 @@ impl Loads {
     pub(crate) fn new(window: &Window, homes: &[SiteNo], wanted: &PartSet) -> Loads
         requires few { length homes.now ≤ MAX_PARTS }
         requires sites { AreSites MAX_SITES homes.now }
-        ensures held { (site : ℕ) → 1 ≤ site → site ≤ MAX_SITES → slice_index result.held (site - 1) ≡ load MAX_SITES (length homes.now) (map parts_in window.now) (home_in homes.now) site }
-        ensures others { (site : ℕ) → 1 ≤ site → site ≤ MAX_SITES → slice_index result.others (site - 1) ≡ other_load (length homes.now) (map parts_in window.now) (home_in homes.now) (parts_in wanted.now) site }
-        ensures wanted { result.wanted ≡ wanted_load (length homes.now) (map parts_in window.now) (parts_in wanted.now) }
+        ensures held { (site : ℕ) → 1 ≤ site → site ≤ MAX_SITES → slice_index result.held (site - 1) ≡ load MAX_SITES (length homes.now) window.now (home_in homes.now) site }
+        ensures others { (site : ℕ) → 1 ≤ site → site ≤ MAX_SITES → slice_index result.others (site - 1) ≡ other_load (length homes.now) window.now (home_in homes.now) wanted.now site }
+        ensures wanted { result.wanted ≡ wanted_load (length homes.now) window.now wanted.now }
         ensures eight { (length result.held ≡ MAX_SITES) × (length result.others ≡ MAX_SITES) }
         ensures held_bound { (k : ℕ) → slice_index result.held k ≤ WINDOW * MAX_PARTS }
         ensures others_bound { (k : ℕ) → slice_index result.others k + result.wanted ≤ 2 * WINDOW * MAX_PARTS }

@@ -1,10 +1,10 @@
 //! The window of the last write sets.
 
-ghost use Rattle.std.specs.Prelude.{◌≡◌, ◌*◌, ℕ, ◌-◌, ◌<◌, ◌≤◌, ◌↔◌, [], length, map, count_by, slice_get, slice_index, IfOk, IsNone};
-ghost use Rattle.dm_event.specs.Parts.{has_part};
+ghost use Rattle.std.specs.Prelude.{◌≡◌, ◌*◌, ℕ, ◌-◌, ◌<◌, ◌≤◌, ◌↔◌, [], length, count_by, slice_get, slice_index, IfOk, IsNone};
 ghost use Rattle.dm_model.specs.Scores.{weight, together};
+ghost use Rattle.dm_model.specs.Tests.{is_among};
 ghost use Rattle.dm_placement.specs.Scored.{home_in, AreSites, HaveHomes};
-ghost use Rattle.dm_placement.specs.Sets.{parts_in, noted};
+ghost use Rattle.dm_placement.specs.Sets.{noted};
 
 use crate::together::{count_others, meets};
 use circular_buffer::HeapCircularBuffer;
@@ -58,7 +58,7 @@ impl Window {
     /// In how many of the sets the partition is.
     pub(crate) fn weight(&self, part: Part) -> u32
         requires { part < MAX_PARTS }
-        ensures exact { result ≡ weight (map parts_in self.now) part }
+        ensures exact { result ≡ weight self.now part }
         ensures bound { result ≤ WINDOW }
     {
         let (older, newer) = self.sets.as_slices();
@@ -70,7 +70,7 @@ impl Window {
         requires few { length homes.now ≤ MAX_PARTS }
         requires sites { AreSites MAX_SITES homes.now }
         requires wanted_homes { HaveHomes (length homes.now) wanted.now }
-        ensures exact { (site : ℕ) → 1 ≤ site → site ≤ MAX_SITES → slice_index result (site - 1) ≡ together (map parts_in self.now) (home_in homes.now) (parts_in wanted.now) site }
+        ensures exact { (site : ℕ) → 1 ≤ site → site ≤ MAX_SITES → slice_index result (site - 1) ≡ together self.now (home_in homes.now) wanted.now site }
         ensures bound { (k : ℕ) → slice_index result k ≤ WINDOW * MAX_PARTS }
     {
         let parts = homes.len() as Part;
@@ -87,8 +87,14 @@ impl Window {
 /// How many of the sets hold the partition.
 fn holding(sets: &[PartSet], part: Part) -> usize
     requires { part < MAX_PARTS }
-    ensures exact { result ≡ count_by (λ set. has_part set part) sets.now }
+    ensures exact { result ≡ count_by (λ set. is_among set part) sets.now }
     ensures bound { result ≤ length sets.now }
 {
-    sets.iter().filter(|set| set.holds(part)).count()
+    let mut count = 0;
+    for set in sets {
+        if set.holds(part) {
+            count += 1;
+        }
+    }
+    count
 }

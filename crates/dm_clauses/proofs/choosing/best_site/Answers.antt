@@ -5,7 +5,7 @@ use Rattle.dm_event.specs.Layout.{Layout, is_between}
 use Rattle.dm_event.specs.declared.step.Step.{Step}
 use Rattle.dm_model.specs.Legal.{LegalPast}
 use Rattle.std.proofs.lemmas.List.{length-take-le, get_or-take}
-use Rattle.dm_model.specs.Choices.{home, parts_of}
+use Rattle.dm_model.specs.Choices.{home, choose}
 use Rattle.dm_model.specs.Progress.{reached}
 use Rattle.dm_model.proofs.VectorFacts.{long_by}
 use Rattle.dm_event.specs.declared.schema.Weights.{Weights}
@@ -85,10 +85,10 @@ returns c =
     } in
     c.choose.ensures.due
     ∙ ap (λ (w : Weights). choice_in w c.args.window.now hs vs c.parts_of.result) c.weights.ensures
-    ∙ c.choices_due.ensures.choice layout past c.args.window.now hs vs c.parts_of.result (parts_of layout c.args.keys.now) c.requires.legal tells
+    ∙ c.choices_due.ensures.choice layout past c.args.window.now hs vs c.parts_of.result c.requires.legal tells
     (homes_fit layout past c.homes-homes.result c.parts.result (length vs) c.requires.legal c.parts.ensures.masters c.homes-homes.ensures.long
     c.parts.ensures.same (c.parts.ensures.limits.1)
     (most ∙ c.sites.ensures.same) c.homes-homes.ensures.each)
     (λ p t. let below = c.parts_of.ensures.within p t in omega (arith, below, long, c.parts.ensures.same))
-    (c.choices_due.ensures.listed layout c.args.keys.now c.parts_of.result c.parts_of.ensures.members)
     (omega (arith, c.sites.ensures.same, c.sites.ensures.limits.0))
+    ∙ ap (λ (wanted : List ℕ). choose layout past wanted) c.parts_of.ensures.exact

@@ -6,19 +6,18 @@ use Rattle.std.specs.Int.{w128}
 use Rattle.dm_event.specs.Vectors.{at, sites_to, join_all}
 use Rattle.dm_model.specs.Scores.{load, moved_to, uneven, lag, together}
 use Rattle.dm_placement.specs.Scored.{home_in, vector_in, score_in}
-use Rattle.dm_placement.specs.Sets.{parts_in}
 use Rattle.dm_placement.proofs.Evens.{first_loads, uneven_is, moved_loads}
 use Rattle.dm_placement.proofs.ScoreParts.{IsSmall, small_size, one_score, write_next, write_past, write_keeps}
 use Rattle.dm_placement.proofs.scoring.scores.Goals as goal
 
 pub loop-index-preserved : goal.loop-index-preserved
 loop-index-preserved c =
-    let window = map parts_in c.args.window.now in
+    let window = c.args.window.now in
     let homes = c.args.homes.now in
     let vectors = c.args.vectors.now in
     let sites = length vectors in
     let parts = length homes in
-    let wanted = parts_in c.args.wanted in
+    let wanted = c.args.wanted in
     let site = c.loop-index.index + 1 in
     let within : c.loop-index.index < length c.loop-index.scores = omega (arith, c.loop-index.invariant.eight, c.requires.sites) in
     let now_is : c.uneven-uneven_now.result ≡ uneven sites parts window (home_in homes) =
