@@ -262,7 +262,7 @@ impl Book {
                 &self.steps,
                 &self.window,
                 session,
-                keys.as_slice(),
+                keys,
             ),
             Want::Place(_) | Want::Restart => unreachable!(),
         }

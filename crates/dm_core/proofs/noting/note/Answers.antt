@@ -1,4 +1,4 @@
-use Rattle.std.proofs.Common.{ℕ, ◌≡◌, false, ◌==◌, List, [], ◌∷◌, Some, length, sym, ap, ◌∙◌, subst, true≢false}
+use Rattle.std.proofs.Common.{ℕ, ◌≡◌, false, ◌==◌, List, [], ◌∷◌, Some, length, sym, ap, ap₂, ◌∙◌, true≢false}
 use Rattle.dm_event.specs.Layout.{Layout}
 use Rattle.dm_event.specs.declared.step.Choice.{Choice}
 use Rattle.dm_event.specs.declared.step.Step.{Step}
@@ -6,9 +6,8 @@ use Rattle.dm_event.specs.declared.step.Step.TheVariants.{Route}
 use Rattle.dm_event.specs.declared.step.TxnId.{TxnId}
 use Rattle.dm_event.specs.declared.step.Want.{Want}
 use Rattle.dm_event.specs.declared.step.Want.TheVariants.{Txn}
-use Rattle.dm_model.specs.Choices.{window as window_of, declared_parts, parts_of, parts_in_order}
-use Rattle.dm_model.specs.Tests.{is_among}
-use Rattle.dm_placement.specs.Tells.{AreSetsOf}
+use Rattle.dm_model.specs.Choices.{declared_parts, parts_of}
+use Rattle.dm_placement.specs.Sets.{noted}
 use Rattle.dm_core.proofs.noting.note.Goals as goal
 
 -- a Route with a key declares the partitions of its keys
@@ -25,8 +24,7 @@ returns-in-Txn c = λ past told.
     let r = c.in-Route in
     let some : (length c.in-Txn.keys == 0) ≡ false = ap (λ (l : List ℕ). length l == 0) (sym c.as_slice.ensures.same) ∙ sym c.is_empty.ensures
     ∙ c.if-not-is_empty.true in
-    let held = c.choices_due.ensures.listed layout c.in-Txn.keys c.parts_of.result
-    (λ p. c.parts_of.ensures.members p ∙ ap (λ (l : List ℕ). is_among (parts_in_order layout l) p) c.as_slice-in-Txn.ensures.same) in
-    subst (λ (w : List (List ℕ)). AreSetsOf w (window_of layout (c.args.step.now ∷ past))) (sym c.note.ensures)
-    (c.choices_due.ensures.noted layout past c.args.step.now c.args.window.now c.parts_of.result (parts_of layout c.in-Txn.keys) told
-    (declares layout c.args.step.now r.txn r.want r.min r.site r.choice c.in-Txn.keys r.is c.in-Txn.is some) held)
+    c.note.ensures
+    ∙ ap₂ (λ (sets : List (List ℕ)) (set : List ℕ). noted sets set) told c.parts_of.ensures.exact
+    ∙ c.choices_due.ensures.noted layout past c.args.step.now (parts_of layout c.in-Txn.keys)
+    (declares layout c.args.step.now r.txn r.want r.min r.site r.choice c.in-Txn.keys r.is c.in-Txn.is some)
