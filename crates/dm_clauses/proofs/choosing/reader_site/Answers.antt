@@ -9,7 +9,7 @@ pub returns-then-has_seen : goal.returns-then-has_seen
 returns-then-has_seen c =
     c.around.ensures
     ∙ sym (reader_found c.args.schema.now (reverse c.args.steps.now) c.args.session c.loop-place.place (omega arith)
-        (sym c.has_seen.ensures ∙ c.if-has_seen.true) c.loop-place.invariant)
+    (sym c.has_seen.ensures ∙ c.if-has_seen.true) c.loop-place.invariant)
 
 pub loop-place-preserved : goal.loop-place-preserved
 loop-place-preserved c k x = elim (cases_eq k c.loop-place.place) [

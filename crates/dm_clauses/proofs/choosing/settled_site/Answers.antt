@@ -15,7 +15,7 @@ returns-then-all_settled c =
     let past = reverse c.args.steps.now in
     let keys = c.args.keys.now in
     sym (find_first (λ site. list_all (λ p. settled_at (placing layout past p) site) (parts_of layout keys)) 1 layout.sites c.loop-site.site (omega arith)
-        (omega arith)
+    (omega arith)
     (settled_parts layout past keys c.loop-site.site ∙ sym c.all_settled.ensures ∙ c.if-all_settled.true)
     (λ j x y. settled_parts layout past keys j ∙ c.loop-site.invariant j x y))
 

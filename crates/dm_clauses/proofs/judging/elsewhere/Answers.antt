@@ -12,16 +12,16 @@ pub returns-in-Some : goal.returns-in-Some
 returns-in-Some c =
     sym (sym c.loop-key.invariant ∙ left_at c.args.schema.now (reverse c.args.steps.now) c.args.site c.args.keys.now c.loop-key.key-index c.loop-key-test.true
     ∙ ap (λ (o : Option ℕ). option_or o (left c.args.schema.now (reverse c.args.steps.now) c.args.site (drop (c.loop-key.key-index + 1) c.args.keys.now)))
-        (sym c.away.ensures ∙ c.in-Some.is))
+    (sym c.away.ensures ∙ c.in-Some.is))
 
 pub loop-key-preserved : goal.loop-key-preserved
 loop-key-preserved c =
     sym (left_at c.args.schema.now (reverse c.args.steps.now) c.args.site c.args.keys.now c.loop-key.key-index c.loop-key-test.true
     ∙ ap (λ (o : Option ℕ). option_or o (left c.args.schema.now (reverse c.args.steps.now) c.args.site (drop (c.loop-key.key-index + 1) c.args.keys.now)))
-        (sym c.away.ensures ∙ c.in_default.is))
+    (sym c.away.ensures ∙ c.in_default.is))
     ∙ c.loop-key.invariant
 
 pub returns : goal.returns
 returns c =
     sym (sym c.loop-key.invariant ∙ ap (λ (l : List ℕ). left c.args.schema.now (reverse c.args.steps.now) c.args.site l)
-        (drop_all c.args.keys.now c.loop-key.key-index c.loop-key-test.false))
+    (drop_all c.args.keys.now c.loop-key.key-index c.loop-key-test.false))

@@ -12,7 +12,7 @@ returns-then-get c =
     let site = c.loop-site.site in
     sym (find_first (λ j. not (j == e.origin) && nat_lt (at v j) (at e.begin j)) 1 c.args.schema.now.sites site (omega arith) (omega arith)
     (ap (λ (b : Bool). not b && nat_lt (at v site) (at e.begin site)) (ne_eqb site e.origin c.if-site-entry.true)
-        ∙ lt-ltb (at v site) (at e.begin site) (omega arith))
+    ∙ lt-ltb (at v site) (at e.begin site) (omega arith))
     (λ j x y. c.loop-site.invariant j x y))
 
 pub returns : goal.returns
@@ -20,4 +20,4 @@ returns c =
     let v = c.args.vector.now in
     let e = c.args.entry.now in
     sym (find_nothing (λ j. not (j == e.origin) && nat_lt (at v j) (at e.begin j)) 1 c.args.schema.now.sites
-        (λ j x y. c.loop-site.invariant j x (omega (arith, y))))
+    (λ j x y. c.loop-site.invariant j x (omega (arith, y))))

@@ -8,4 +8,4 @@ use Rattle.dm_clauses.proofs.judging.moved_why.Goals as goal
 pub elsewhere-requires : goal.elsewhere-requires
 elsewhere-requires c =
     ap (λ (l : List ℕ). list_all (is_key c.args.schema.now) l) c.declared.ensures
-        ∙ declared_in c.args.schema.now (reverse c.args.steps.now) c.requires c.args.txn
+    ∙ declared_in c.args.schema.now (reverse c.args.steps.now) c.requires c.args.txn

@@ -9,7 +9,7 @@ use Rattle.dm_clauses.proofs.judging.next_refresh.Goals as goal
 pub returns-then-may_refresh : goal.returns-then-may_refresh
 returns-then-may_refresh c =
     sym (find_first (λ j. is_none (refusal c.args.schema.now (reverse c.args.steps.now) (Refresh c.args.site j))) 1 c.args.schema.now.sites c.loop-origin.origin
-        (omega arith) (omega arith)
+    (omega arith) (omega arith)
     (sym c.may_refresh.ensures ∙ c.if-may_refresh.true) (λ j x y. c.loop-origin.invariant j x y))
 
 pub loop-origin-preserved : goal.loop-origin-preserved

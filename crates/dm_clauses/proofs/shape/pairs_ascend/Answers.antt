@@ -10,7 +10,7 @@ returns-then-key_at c =
     let f : Pair → ℕ = λ p. p.key in
     let long : length (map f c.args.pairs.now) ≡ length c.args.pairs.now = length-map c.args.pairs.now f in
     sym (sym c.loop-i.invariant ∙ ascends_not (map f c.args.pairs.now) c.loop-i.i (omega (arith, long))
-        (omega (arith, c.key_at.ensures, c.key_at-in-loop-i.ensures)))
+    (omega (arith, c.key_at.ensures, c.key_at-in-loop-i.ensures)))
 
 pub loop-i-preserved : goal.loop-i-preserved
 loop-i-preserved c =

@@ -13,14 +13,14 @@ pub returns-then-n-most-clause-exact : goal.returns-then-n-most-clause-exact
 returns-then-n-most-clause-exact c =
     let b : begins_number c.args.word.now ≡ true = search rules in
     let p = number_parsed c.args.most c.args.word.now c.in-Ok-parse.n c.parse.result b (rw (c.in-Ok.ensures.cases.0) at c.parse.ensures.value.0)
-        c.in-Ok-parse.is in
+    c.in-Ok-parse.is in
     sym (number_some c.args.most c.args.word.now c.in-Ok-parse.n p.1 c.if-n-most.true p.0)
 
 pub returns-else-n-most-clause-exact : goal.returns-else-n-most-clause-exact
 returns-else-n-most-clause-exact c =
     let b : begins_number c.args.word.now ≡ true = search rules in
     let p = number_parsed c.args.most c.args.word.now c.in-Ok-parse.n c.parse.result b (rw (c.in-Ok.ensures.cases.0) at c.parse.ensures.value.0)
-        c.in-Ok-parse.is in
+    c.in-Ok-parse.is in
     sym (number_over c.args.most c.args.word.now c.in-Ok-parse.n (omega arith) p.1 p.0 c.if-n-most.false)
 
 pub returns-in-Err-clause-exact : goal.returns-in-Err-clause-exact

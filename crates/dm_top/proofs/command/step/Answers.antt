@@ -12,22 +12,27 @@ returns g c =
     let lines = c.in-Ok.schedule.lines.items in
     let said : schedule_of c.args.bytes.now ≡ Ok (layout, lines) = c.in-Ok.ensures.exact in
     let driven : IsDriven layout lines c.into_steps-history.result.items =
-        driven_of lines c.in-Ok-drive.ensures.layout c.in-Ok-drive.ensures.history c.into_steps-history.ensures.same c.into_steps-history.ensures.legal
-        c.into_steps-history.ensures.snapshot c.into_steps-history.ensures.ordered c.into_steps-history.ensures.session_up
-        c.into_steps-history.ensures.one_master in
+    driven_of lines c.in-Ok-drive.ensures.layout c.in-Ok-drive.ensures.history c.into_steps-history.ensures.same c.into_steps-history.ensures.legal
+    c.into_steps-history.ensures.snapshot c.into_steps-history.ensures.ordered c.into_steps-history.ensures.session_up
+    c.into_steps-history.ensures.one_master in
     let run : IsRun c.args.bytes.now layout lines c.into_steps-history.result.items = record { schedule = said; driven = driven } in
     elim c.match-whole.branch [
       | in-Err-whole w ↦ rw (w.status-is, w.sink-is) (inr (layout, lines, run), refl)
       | in-Ok-whole+in-Whole w ↦
           let text : w.deref.result.now ≡ output_of layout lines = w.deref.ensures.value
-              ∙ text_of lines c.in-Ok-drive.ensures.layout c.in-Ok-drive.ensures.history c.new-out.ensures.items c.in-Ok-drive.ensures.answers
-              w.in-Ok-whole.ensures in
+          ∙ text_of lines c.in-Ok-drive.ensures.layout c.in-Ok-drive.ensures.history c.new-out.ensures.items c.in-Ok-drive.ensures.answers
+          w.in-Ok-whole.ensures in
           rw (w.status-is, w.sink-is) (layout, lines, run, w.write_all.ensures.whole w.in-Whole.is ∙ ap (appended (g.W.Sink.written c.args.sink.now)) text)
       | in-Ok-whole+in-Fault w ↦
           let text : w.deref.result.now ≡ output_of layout lines = w.deref.ensures.value
-              ∙ text_of lines c.in-Ok-drive.ensures.layout c.in-Ok-drive.ensures.history c.new-out.ensures.items c.in-Ok-drive.ensures.answers
-              w.in-Ok-whole.ensures in
+          ∙ text_of lines c.in-Ok-drive.ensures.layout c.in-Ok-drive.ensures.history c.new-out.ensures.items c.in-Ok-drive.ensures.answers
+          w.in-Ok-whole.ensures in
           let (n, part) = w.write_all.ensures.part in
-          rw (w.status-is, w.sink-is) (layout, lines, run, (n, part ∙ ap (λ (text : List ℕ). appended (g.W.Sink.written c.args.sink.now) (take n text)) text),
-              w.write_all.ensures.cause w.in-Fault.is)
+          rw (w.status-is, w.sink-is) (
+            layout,
+            lines,
+            run,
+            (n, part ∙ ap (λ (text : List ℕ). appended (g.W.Sink.written c.args.sink.now) (take n text)) text),
+            w.write_all.ensures.cause w.in-Fault.is,
+          )
     ]
