@@ -26,8 +26,8 @@ ghost use Rattle.dm_store.specs.Histories.{committed_inside};
 use crate::inside::inside;
 use crate::noting::note;
 use dm_event::{
-    Attempt, Choice, Entry, Key, NoMemory, Part, Pending, Placing, Said, Schema, SiteNo, Step,
-    TxnId, Value, Vector, Want, Why,
+    Attempt, Choice, Entry, Key, MAX_SESSIONS, NoMemory, Part, Pending, Placing, Said, Schema,
+    SiteNo, Step, TxnId, Value, Vector, Want, Why,
 };
 use dm_model::refreshes_reach_full;
 use dm_placement::Window;
@@ -61,7 +61,7 @@ impl Book {
     /// An empty history. `items` has the number of scripted items of each of the 32 sessions, 0 where
     /// there is no script.
     pub fn new(alloc: Global, schema: &Schema, items: &[u32]) -> Result<Book, NoMemory>
-        requires { length items.now ≡ 32 }
+        requires { length items.now ≡ MAX_SESSIONS }
         ensures schema { IfOk result (λ book. book.layout ≡ schema.now) }
         ensures items { IfOk result (λ book. book.items ≡ items.now) }
         ensures empty { IfOk result (λ book. book.steps ≡ []) }
@@ -251,7 +251,7 @@ impl Book {
 
     /// The site and the choice that are due for a transaction of the session.
     pub fn choice_for(&self, session: u32, want: &Want) -> (SiteNo, Choice)
-        requires session { (1 ≤ session) × (session ≤ 32) }
+        requires session { (1 ≤ session) × (session ≤ MAX_SESSIONS) }
         requires txn { wants_txn want.now ≡ true }
         requires keys { list_all (is_key self.now.layout) (wanted_keys want.now) ≡ true }
         ensures { result ≡ choice_due self.now.layout (past self.now) session (wanted_keys want.now) }
