@@ -41,7 +41,7 @@ values_more : (layout : Layout) (news es : List Entry) (v : List ℕ) → Number
     → (value_in layout (news ++ es) v ≡ value_in layout es v) × WithinCounts (news ++ es) v
 values_more layout [] es v n w = (refl, w)
 values_more layout (d ∷ news) es v n w =
-    let h = values_more layout news es v n.2 w in
+    let h = values_more layout news es v n.1 w in
     (value_more layout d (news ++ es) v n h.1 ∙ h.0, within_more d (news ++ es) v h.1)
 
 module _ (layout : Layout) (past : List Step) (s : Step) (h : LegalPast layout (s ∷ past)) (v : List ℕ) (w : WithinCounts (entries past) v) where
