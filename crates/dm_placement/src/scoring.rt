@@ -26,7 +26,7 @@ pub fn scores(
     requires homes { AreSites (length vectors.now) homes.now }
     requires wanted_homes { HaveHomes (length homes.now) wanted }
     ensures each { (site : ℕ) → 1 ≤ site → site ≤ length vectors.now → slice_index_or result (site - 1) (pos 0) ≡ score_in weights window.now homes.now vectors.now wanted site }
-    ensures past { (site : ℕ) → length vectors.now < site → slice_index_or result (site - 1) (pos 0) ≡ pos 0 }
+    ensures beyond { (site : ℕ) → length vectors.now < site → slice_index_or result (site - 1) (pos 0) ≡ pos 0 }
     ensures bound { (site : ℕ) → nat_abs (slice_index_or result (site - 1) (pos 0)) < 2 ^ 99 }
 {
     let sites = vectors.len();

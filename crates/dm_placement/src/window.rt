@@ -50,7 +50,7 @@ impl Window {
     /// The set at that place, where 0 is the oldest one's.
     pub fn sets(&self, nth: usize) -> Option<PartSet>
         ensures nth { result ≡ slice_get self.now nth }
-        ensures past { IsNone result ↔ (length self.now ≤ nth) }
+        ensures beyond { IsNone result ↔ (length self.now ≤ nth) }
     {
         self.sets.get(nth).copied()
     }
