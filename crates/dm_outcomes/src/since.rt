@@ -81,7 +81,7 @@ pub(crate) fn last_settled(
 }
 
 /// Whether the site was restarted after the session's last Route.
-#[tactic(auto, using(dm_plain::proofs::Past::past_more))]
+#[tactic(auto, using(dm_steps::proofs::Past::past_more))]
 pub(crate) fn restarted_since(steps: &[Step], session: u32, site: SiteNo) -> bool
     ensures { result ≡ restarted_since session site (reverse steps.now) }
 {

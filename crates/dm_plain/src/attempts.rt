@@ -6,7 +6,8 @@ ghost use Rattle.dm_event.specs.Txns.{same_txn};
 ghost use Rattle.dm_event.specs.declared.step.TxnId.{TxnId};
 ghost use Rattle.dm_model.specs.Attempts.{is_reply, replies, is_route, routes, last_routing, routing, wanted_keys, declared, state_by, dropped_at, dropped_by, state, attempt, is_routed, wants_txn, routed, routed_txn};
 ghost use Rattle.dm_model.specs.Words.{since};
-ghost use Rattle.dm_plain.specs.Routings.{without_want, routing_by, wanted_by, want_of, routed_by};
+ghost use Rattle.dm_plain.specs.Routings.{without_want, routing_by, wanted_by, want_of};
+ghost use Rattle.dm_steps.specs.Adding.{routed_by};
 
 use dm_event::{Attempt, AttemptState, Choice, Key, Pending, SiteNo, Step, TxnId, Vector, Want};
 
@@ -38,7 +39,7 @@ pub fn is_route(step: &Step, session: u32) -> bool
 }
 
 /// The number of the session's Replies.
-#[tactic(auto, using(crate::proofs::Past::past_more))]
+#[tactic(auto, using(dm_steps::proofs::Past::past_more))]
 pub fn replies(steps: &[Step], session: u32) -> u64
     ensures exact { result ≡ replies session (reverse steps.now) }
     ensures few { result ≤ length steps.now }
@@ -53,7 +54,7 @@ pub fn replies(steps: &[Step], session: u32) -> u64
 }
 
 /// The number of Routes of the session's current item.
-#[tactic(auto, using(crate::proofs::Past::past_more))]
+#[tactic(auto, using(dm_steps::proofs::Past::past_more))]
 pub fn routes(steps: &[Step], session: u32) -> u64
     ensures exact { result ≡ routes session (reverse steps.now) }
     ensures few { result ≤ length steps.now }
@@ -110,7 +111,7 @@ fn want_of(step: &Step, attempt: TxnId) -> Option<&Want>
 }
 
 /// The last Route of the session.
-#[tactic(auto, using(crate::proofs::Past::past_more, crate::proofs::Routings::routing_last))]
+#[tactic(auto, using(dm_steps::proofs::Past::past_more, crate::proofs::Routings::routing_last))]
 pub fn last_routing(steps: &[Step], session: u32) -> Option<Routing>
     ensures { result ≡ option_map without_want (last_routing session (reverse steps.now)) }
 {
@@ -122,7 +123,7 @@ pub fn last_routing(steps: &[Step], session: u32) -> Option<Routing>
 }
 
 /// What the last Route of the session wants.
-#[tactic(auto, using(crate::proofs::Past::past_more, crate::proofs::Routings::wanted_last))]
+#[tactic(auto, using(dm_steps::proofs::Past::past_more, crate::proofs::Routings::wanted_last))]
 pub fn last_want(steps: &[Step], session: u32) -> Option<&Want>
     ensures { option_copied result ≡ option_map (λ r. r.want) (last_routing session (reverse steps.now)) }
 {
@@ -134,7 +135,7 @@ pub fn last_want(steps: &[Step], session: u32) -> Option<&Want>
 }
 
 /// What the Route of the attempt wants.
-#[tactic(auto, using(crate::proofs::Past::past_more, crate::proofs::Routings::want_last))]
+#[tactic(auto, using(dm_steps::proofs::Past::past_more, crate::proofs::Routings::want_last))]
 fn want(steps: &[Step], txn: TxnId) -> Option<&Want>
     ensures { option_copied result ≡ option_map (λ r. r.want) (routing txn (reverse steps.now)) }
 {
@@ -222,7 +223,7 @@ fn dropped_by(step: &Step, before: AttemptState) -> AttemptState
 }
 
 /// The state of the session's current item.
-#[tactic(auto, using(crate::proofs::Past::past_more))]
+#[tactic(auto, using(dm_steps::proofs::Past::past_more))]
 pub fn state(steps: &[Step], session: u32) -> AttemptState
     ensures { result ≡ state session (reverse steps.now) }
 {
@@ -234,7 +235,7 @@ pub fn state(steps: &[Step], session: u32) -> AttemptState
 }
 
 /// The attempt of the last Route of the session's current item.
-#[tactic(auto, using(crate::proofs::Past::past_more, crate::proofs::Routings::routed_last))]
+#[tactic(auto, using(dm_steps::proofs::Past::past_more, crate::proofs::Routings::routed_last))]
 fn current_txn(steps: &[Step], session: u32) -> Option<TxnId>
     ensures { result ≡ option_map (λ r. r.txn) (last_routing session (since (is_reply session) (reverse steps.now))) }
 {
