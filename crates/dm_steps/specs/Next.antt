@@ -1,6 +1,7 @@
 -- What one further step makes of what is kept of a session, a partition or a site. The pending step that a Restart keeps is given.
 use Rattle.std.specs.Option.{option_or}
-use Rattle.std.specs.Prelude.{ℕ, suc, ◌+◌, ◌==◌, ◌&&◌, not, Bool, false, if◌then◌else◌, List, [], ◌∷◌, ◌++◌, Option, None, unwrap_or, option_map, option_and_then, option_to_list, filter, slice_get, ◌||◌}
+use Rattle.std.specs.Prelude.{ℕ, suc, ◌+◌, ◌==◌, ◌&&◌, not, Bool, false, if◌then◌else◌, List, [], ◌∷◌, ◌++◌, Option, None, unwrap_or, option_map}
+use Rattle.std.specs.Prelude.{option_and_then, option_to_list, filter, slice_get, ◌||◌}
 use Rattle.dm_event.specs.Layout.{Layout}
 use Rattle.dm_event.specs.Vectors.{at, vector_by}
 use Rattle.dm_event.specs.declared.attempt.Attempt.{Attempt}

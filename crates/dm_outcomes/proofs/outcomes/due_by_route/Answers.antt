@@ -1,6 +1,6 @@
 use Rattle.std.proofs.Common.{sym}
 use Rattle.std.specs.Prelude.{reverse}
-use Rattle.dm_plain.proofs.Legality.{wanted_fits}
+use Rattle.dm_steps.proofs.Legality.{wanted_fits}
 use Rattle.dm_outcomes.proofs.outcomes.due_by_route.Goals as goal
 
 pub due_of-requires : goal.due_of-requires
