@@ -1,2 +1,3 @@
 mod Sums
 mod Needs
+mod Worked
