@@ -1,3 +1,4 @@
 mod Sums
 mod Needs
+mod Installing
 mod Worked

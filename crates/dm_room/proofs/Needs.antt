@@ -193,7 +193,7 @@ module _ (layout : Layout) (items : List ℕ) (past : List Step) (legal : LegalP
   settle_free part epoch a =
       let l = legal_settle layout past part epoch a in
       let m = places (Settle part epoch) part (λ k n. cond-false (part == k) _ _ (ne_eqb part k (λ e. n (sym e))))
-          (shape_of layout past (Settle part epoch) a) in
+      (shape_of layout past (Settle part epoch) a) in
       let now : owed (placing layout past part) ≡ 1 = ap owed l.granted in
       let after : owed (placing layout (Settle part epoch ∷ past) part) ≡ 0 =
       ap owed (cond-true (part == part) _ _ (eq-eqb part part refl) ∙ ap settled l.granted) in
@@ -222,7 +222,7 @@ module _ (layout : Layout) (items : List ℕ) (past : List Step) (legal : LegalP
       let d = doubted_commit layout past site e a in
       let range = (and_parts (is_site layout site) _ (shape_of layout past (Doubt site (pending.Commit e)) a)).0 in
       let stood : is_down site past ≡ false = subst (λ (i : ℕ). is_down i past ≡ false) d.own
-          ((sound_past layout past legal).up e.origin e.txn d.commit.runs) in
+      ((sound_past layout past legal).up e.origin e.txn d.commit.runs) in
       let l = fewer (Doubt site (pending.Commit e)) (λ k. by_session (state k past) (dropped_at site (state k past)) (e.txn.session == k)
       (live_dropped site (state k past))) in
       let t = turns (Doubt site (pending.Commit e)) site true (λ k. down_next k (Doubt site (pending.Commit e)) past) range in
