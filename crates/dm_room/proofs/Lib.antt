@@ -1,2 +1,4 @@
 mod Sums
 mod Needs
+mod Installing
+mod Worked

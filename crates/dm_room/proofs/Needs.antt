@@ -1,11 +1,11 @@
 -- What each kind of step needs.
-use Rattle.std.proofs.Common.{ℕ, suc, ◌+◌, ◌-◌, ◌<◌, ◌≤◌, ◌≡◌, ◌≢◌, ◌==◌, ◌&&◌, Bool, true, false, if◌then◌else◌, List, ◌∷◌, Option, Some, None, length, refl, sym, ap, ◌∙◌}
+use Rattle.std.proofs.Common.{ℕ, suc, ◌+◌, ◌-◌, ◌<◌, ◌≤◌, ◌≡◌, ◌≢◌, ◌==◌, Bool, true, false, if◌then◌else◌, List, ◌∷◌, Option, Some, None, length, refl, sym}
+use Rattle.std.proofs.Common.{ap, ◌∙◌}
 use Rattle.std.proofs.Common.{subst, arith, unwrap_or, inl, inr}
 use Rattle.std.proofs.lemmas.Bool.{eqb-true, eq-eqb, ne_eqb, false≢true, and_parts, leb-true, ltb-true, cond-true, cond-false}
-use Rattle.std.specs.List.{range_with_len, sum_by}
+use Rattle.std.specs.List.{range_with_len}
 use Rattle.std.specs.Prelude.{option_map, option_to_list}
 use Rattle.dm_event.specs.Layout.{Layout, is_session, is_site, is_part}
-use Rattle.dm_event.specs.Vectors.{sites_to}
 use Rattle.dm_event.specs.declared.attempt.AttemptState.{AttemptState}
 use Rattle.dm_event.specs.declared.attempt.AttemptState.TheVariants as stands
 use Rattle.dm_event.specs.declared.limits.TheConstants.{MAX_SESSIONS}
@@ -26,7 +26,7 @@ use Rattle.dm_event.specs.declared.step.Step.TheVariants.{Route, Reply, Ask, Set
 use Rattle.dm_event.specs.declared.step.TxnId.{TxnId}
 use Rattle.dm_event.specs.declared.step.Want.{Want}
 use Rattle.dm_model.proofs.Judged.{shape_of}
-use Rattle.dm_model.proofs.LegalSteps.{InRange, in_range, legal_route, legal_begin, legal_moved, legal_commit, legal_end, legal_fail, legal_restart, legal_ask}
+use Rattle.dm_model.proofs.LegalSteps.{in_range, legal_route, legal_begin, legal_moved, legal_commit, legal_end, legal_fail, legal_restart, legal_ask}
 use Rattle.dm_model.proofs.LegalSteps.{legal_release, legal_grant, legal_settle, doubted_commit, doubted_release, doubted_grant}
 use Rattle.dm_model.proofs.MastershipKept.{Held}
 use Rattle.dm_model.proofs.MastershipSound.{part_of, mastery, mastered_past}
@@ -40,8 +40,8 @@ use Rattle.dm_model.specs.Placings.{placing, asked, settled, after_acts}
 use Rattle.dm_model.specs.Rows.{may_route}
 use Rattle.dm_model.specs.Runs.{runs}
 use Rattle.dm_model.specs.Shape.{is_txn}
-use Rattle.dm_room.proofs.Sums.{same_sum, less_sum, one_sum, one_less}
-use Rattle.dm_room.specs.Room.{live, owed, up, items_of, unanswered, unanswered_items, live_attempts, sites_up, steps_owed, need}
+use Rattle.dm_room.proofs.Sums.{less_sum, one_sum, one_less}
+use Rattle.dm_room.specs.Room.{live, owed, up, items_of, unanswered, live_attempts, sites_up, steps_owed, need}
 use Rattle.dm_steps.proofs.Sites.{down_next}
 
 live_routed : (st : AttemptState) → is_routed st ≡ true → live st ≡ 1
@@ -86,7 +86,7 @@ module _ (layout : Layout) (items : List ℕ) (past : List Step) (legal : LegalP
       let l = leb-true 1 c p.0 in
       let m = leb-true c MAX_SESSIONS p.1 in
       let sum = one_sum (λ k. live (state k past)) (λ k. live (state k (s ∷ past))) c 1 MAX_SESSIONS l (omega (arith, m))
-          (λ k n. ap live (h k ∙ other_session (c == k) new (state k past) (ne_eqb c k (λ e. n (sym e))))) in
+      (λ k n. ap live (h k ∙ other_session (c == k) new (state k past) (ne_eqb c k (λ e. n (sym e))))) in
       let own : live (state c (s ∷ past)) ≡ live new = ap live (h c ∙ own_session (c == c) new (state c past) (eq-eqb c c refl)) in
       sum ∙ ap (λ (n : ℕ). live_attempts past + n) own
 
@@ -127,7 +127,7 @@ module _ (layout : Layout) (items : List ℕ) (past : List Step) (legal : LegalP
       let m = places (Ask part epoch to txn) part (λ k n. cond-false (part == k) _ _ (ne_eqb part k (λ e. n (sym e)))) range in
       let now : owed (placing layout past part) ≡ 0 = ap owed l.settled in
       let after : owed (placing layout (Ask part epoch to txn ∷ past) part) ≡ 3 =
-          ap owed (cond-true (part == part) _ _ (eq-eqb part part refl) ∙ ap (λ (p : Placing). asked p to) l.settled) in
+      ap owed (cond-true (part == part) _ _ (eq-eqb part part refl) ∙ ap (λ (p : Placing). asked p to) l.settled) in
       omega (arith, m, now, after)
 
   pub refresh_needs : (site origin : ℕ) → need layout items past (Refresh site origin) ≡ 1
@@ -192,10 +192,11 @@ module _ (layout : Layout) (items : List ℕ) (past : List Step) (legal : LegalP
   pub settle_free : (part epoch : ℕ) → Allowed layout past (Settle part epoch) → need layout items past (Settle part epoch) ≡ 0
   settle_free part epoch a =
       let l = legal_settle layout past part epoch a in
-      let m = places (Settle part epoch) part (λ k n. cond-false (part == k) _ _ (ne_eqb part k (λ e. n (sym e)))) (shape_of layout past (Settle part epoch) a) in
+      let m = places (Settle part epoch) part (λ k n. cond-false (part == k) _ _ (ne_eqb part k (λ e. n (sym e))))
+      (shape_of layout past (Settle part epoch) a) in
       let now : owed (placing layout past part) ≡ 1 = ap owed l.granted in
       let after : owed (placing layout (Settle part epoch ∷ past) part) ≡ 0 =
-          ap owed (cond-true (part == part) _ _ (eq-eqb part part refl) ∙ ap settled l.granted) in
+      ap owed (cond-true (part == part) _ _ (eq-eqb part part refl) ∙ ap settled l.granted) in
       omega (arith, m, now, after)
 
   -- ---- Doubts
@@ -207,9 +208,9 @@ module _ (layout : Layout) (items : List ℕ) (past : List Step) (legal : LegalP
       let r = in_range layout site range in
       let top = r.top in
       let sum = one_sum (λ k. up (is_down k past)) (λ k. up (is_down k (s ∷ past))) site 1 layout.sites r.one (omega (arith, top))
-          (λ k n. ap up (h k ∙ ap (λ (o : Option Bool). unwrap_or o (is_down k past)) (cond-false (site == k) _ _ (ne_eqb site k (λ e. n (sym e)))))) in
+      (λ k n. ap up (h k ∙ ap (λ (o : Option Bool). unwrap_or o (is_down k past)) (cond-false (site == k) _ _ (ne_eqb site k (λ e. n (sym e)))))) in
       let own : up (is_down site (s ∷ past)) ≡ up down =
-          ap up (h site ∙ ap (λ (o : Option Bool). unwrap_or o (is_down site past)) (cond-true (site == site) _ _ (eq-eqb site site refl))) in
+      ap up (h site ∙ ap (λ (o : Option Bool). unwrap_or o (is_down site past)) (cond-true (site == site) _ _ (eq-eqb site site refl))) in
       sum ∙ ap (λ (n : ℕ). sites_up layout past + n) own
 
   -- no session has more that is live
@@ -220,9 +221,10 @@ module _ (layout : Layout) (items : List ℕ) (past : List Step) (legal : LegalP
   doubt_free site (pending.Commit e) a =
       let d = doubted_commit layout past site e a in
       let range = (and_parts (is_site layout site) _ (shape_of layout past (Doubt site (pending.Commit e)) a)).0 in
-      let stood : is_down site past ≡ false = subst (λ (i : ℕ). is_down i past ≡ false) d.own ((sound_past layout past legal).up e.origin e.txn d.commit.runs) in
+      let stood : is_down site past ≡ false = subst (λ (i : ℕ). is_down i past ≡ false) d.own
+      ((sound_past layout past legal).up e.origin e.txn d.commit.runs) in
       let l = fewer (Doubt site (pending.Commit e)) (λ k. by_session (state k past) (dropped_at site (state k past)) (e.txn.session == k)
-          (live_dropped site (state k past))) in
+      (live_dropped site (state k past))) in
       let t = turns (Doubt site (pending.Commit e)) site true (λ k. down_next k (Doubt site (pending.Commit e)) past) range in
       let u : up (is_down site past) ≡ 1 = ap up stood in
       omega (arith, l, t, u)
@@ -234,7 +236,7 @@ module _ (layout : Layout) (items : List ℕ) (past : List Step) (legal : LegalP
       let range = (and_parts (is_site layout site) _ (shape_of layout past (Doubt site (pending.Release part epoch to vector)) a)).0 in
       let l = fewer (Doubt site (pending.Release part epoch to vector)) (λ k. live_dropped site (state k past)) in
       let t = turns (Doubt site (pending.Release part epoch to vector)) site true (λ k. down_next k (Doubt site (pending.Release part epoch to vector)) past)
-          range in
+      range in
       let u : up (is_down site past) ≡ 1 = ap up (doubted_release layout past site part epoch to vector a).up in
       omega (arith, l, t, u)
   doubt_free site (pending.Grant part epoch vector) a =
@@ -265,8 +267,8 @@ module _ (layout : Layout) (items : List ℕ) (past : List Step) (legal : LegalP
       let top = leb-true session MAX_SESSIONS range.1 in
       let l = reply_fewer session number said in
       let u = one_less (λ k. unanswered items past k) (λ k. unanswered items (Reply session number said ∷ past) k) session 1 MAX_SESSIONS
-          (leb-true 1 session range.0) (omega (arith, top)) (λ k. answered_less (session == k) (replies k past) (items_of items k))
-          (own (session == session) (eq-eqb session session refl) (replies session past) (items_of items session) counted) in
+      (leb-true 1 session range.0) (omega (arith, top)) (λ k. answered_less (session == k) (replies k past) (items_of items k))
+      (own (session == session) (eq-eqb session session refl) (replies session past) (items_of items session) counted) in
       omega (arith, l, u)
     where
       own : (b : Bool) → b ≡ true → (n all : ℕ) → n < all → (all - (if b then suc n else n)) + 1 ≤ all - n
@@ -277,7 +279,7 @@ module _ (layout : Layout) (items : List ℕ) (past : List Step) (legal : LegalP
   reply_few session number said =
       let l = reply_fewer session number said in
       let u = less_sum (λ k. unanswered items past k) (λ k. unanswered items (Reply session number said ∷ past) k) (range_with_len 1 MAX_SESSIONS)
-          (λ k. answered_less (session == k) (replies k past) (items_of items k)) in
+      (λ k. answered_less (session == k) (replies k past) (items_of items k)) in
       omega (arith, l, u)
 
   -- ---- Restarts

@@ -1,8 +1,8 @@
-//! For how many further steps a history keeps room, and which steps need more. This crate has no code,
-//! and its function is a law.
+//! For how many further steps and installs a history keeps room, and which steps need more. This crate
+//! has no code, and its functions are laws.
 #![tactic(auto)]
 
-ghost use Rattle.std.specs.Prelude.{ℕ, ◌≡◌, ◌<◌, ◌≤◌, List, ◌∷◌};
+ghost use Rattle.std.specs.Prelude.{ℕ, ◌+◌, ◌≡◌, ◌<◌, ◌≤◌, List, ◌∷◌};
 ghost use Rattle.dm_event.specs.Layout.{Layout};
 ghost use Rattle.dm_event.specs.declared.step.Cause.{Cause};
 ghost use Rattle.dm_event.specs.declared.step.Choice.{Choice};
@@ -19,7 +19,10 @@ ghost use Rattle.dm_event.specs.declared.step.TxnId.{TxnId};
 ghost use Rattle.dm_event.specs.declared.step.Want.{Want};
 ghost use Rattle.dm_model.specs.Attempts.{replies};
 ghost use Rattle.dm_model.specs.Legal.{LegalPast};
+ghost use Rattle.dm_room.specs.Installs.{installs_to_come, begins_at};
 ghost use Rattle.dm_room.specs.Room.{items_of, need};
+ghost use Rattle.dm_steps.specs.Adding.{of_origin};
+ghost use Rattle.dm_steps.specs.Pendings.{kept_of, entry_by};
 
 /// What each kind of step needs in a legal history: no step more than four places, and those by which
 /// something comes to its end none. The answer to an item beyond those that were counted may need one.
@@ -55,4 +58,11 @@ pub fn room_needed()
         → LegalPast layout (Restart site vector found ∷ past) → need layout items past (Restart site vector found) ≤ 2 }
     ensures each { (layout : Layout) (items : List ℕ) (past : List Step) (step : Step)
         → LegalPast layout (step ∷ past) → need layout items past step ≤ 4 }
+{}
+
+/// In a legal history what a step installs of a site's own was to come there: one for each attempt that
+/// runs, and one for a commit in doubt. Only a Begin adds to it.
+pub fn installs_come()
+    ensures { (layout : Layout) (past : List Step) (step : Step) (site : ℕ) → LegalPast layout (step ∷ past)
+        → installs_to_come site (step ∷ past) + of_origin site (entry_by step (kept_of step past)) ≤ installs_to_come site past + begins_at site step }
 {}

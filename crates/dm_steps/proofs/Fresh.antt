@@ -123,8 +123,11 @@ module _ (past : List Step) (c : ℕ) (turn : Turn past c) where
           let mine : Routing = record { txn = txn; want = want; min = min; site = site; choice = choice } in
           let l : last_routing c (Route txn want min site choice ∷ past) ≡ Some mine = rw e refl in
           record {
-            current = λ h x g. (let same : mine ≡ x = cc (l, g) in (sym (ap (λ (y : Routing). y.txn.number) same)
-                ∙ due.0, sym (ap (λ (y : Routing). y.txn.attempt) same) ∙ due.1 ∙ sym a));
+            current = λ h x g. (let same : mine ≡ x = cc (l, g) in (
+              sym (ap (λ (y : Routing). y.txn.number) same)
+                  ∙ due.0,
+              sym (ap (λ (y : Routing). y.txn.attempt) same) ∙ due.1 ∙ sym a,
+            ));
             begun = λ i t g m. elim (turn.begun i t g m) [ inl p ↦ inl p | inr p ↦ inr (p.0, omega (arith, p.1, a)) ];
             routed = λ h i t g m. elim (turn.begun i t g m) [ inl p ↦ inl p | inr p ↦ inr (p.0, omega (arith, p.1, a)) ];
           }
@@ -144,8 +147,11 @@ begin_next : (past : List Step) (c site : ℕ) (txn : TxnId) (begin : List ℕ) 
 begin_next past c site txn begin turn stand = by (txn.session == c) refl
   where
     other : txn.session ≢ c → (i : ℕ) (t : TxnId) → t.session ≡ c → has_begun i t (Begin site txn begin ∷ past) ≡ true → has_begun i t past ≡ true
-    other n i t e m = elim (any_begun i t site txn (filter_map (begun_at i) past) m) [ inl p ↦ absurd
-        (n (sym (ap (λ (x : TxnId). x.session) p) ∙ e)) | inr p ↦ p ]
+    other n i t e m = elim (any_begun i t site txn (filter_map (begun_at i) past) m) [
+      | inl p ↦ absurd
+          (n (sym (ap (λ (x : TxnId). x.session) p) ∙ e))
+      | inr p ↦ p
+    ]
 
     by : (b : Bool) → (txn.session == c) ≡ b → Turn (Begin site txn begin ∷ past) c
     by true e =
@@ -156,8 +162,11 @@ begin_next past c site txn begin turn stand = by (txn.session == c) refl
         record {
           current = λ h x g. absurd (false≢true (sym n ∙ h));
           begun = λ i t g m. elim (any_begun i t site txn (filter_map (begun_at i) past) m) [
-            | inl p ↦ (let q = p ∙ stand.same in inr (ap (λ (y : TxnId). y.number) q
-                ∙ cur.0, (let z : t.attempt ≡ routes c past = ap (λ (y : TxnId). y.attempt) q ∙ cur.1 in omega (arith, z))))
+            | inl p ↦ (let q = p ∙ stand.same in inr (
+              ap (λ (y : TxnId). y.number) q
+                  ∙ cur.0,
+              (let z : t.attempt ≡ routes c past = ap (λ (y : TxnId). y.attempt) q ∙ cur.1 in omega (arith, z)),
+            ))
             | inr p ↦ turn.begun i t g p
           ];
           routed = λ h i t g m. absurd (false≢true (sym n ∙ h));

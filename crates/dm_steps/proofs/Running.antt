@@ -40,7 +40,7 @@ module _ {X : Type 0} (p q : X → Bool) where
     where
       by : (b c : Bool) → p x ≡ c → filter p (filter q xs) ≡ filter (λ y. if p y then q y else false) xs
           → filter p (cond b (x ∷ filter q xs) (filter q xs)) ≡ cond (if c then b else false) (x ∷ filter (λ y. if p y then q y else false) xs)
-              (filter (λ y. if p y then q y else false) xs)
+          (filter (λ y. if p y then q y else false) xs)
       by true true e r = rw e (ap (λ (l : List X). x ∷ l) r)
       by true false e r = rw e r
       by false true e r = r
@@ -78,7 +78,7 @@ module _ (i : ℕ) (past : List Step) where
       → filter (λ t. runs i t (s ∷ past)) xs ≡ (if site == i then [] else filter (λ t. runs i t past) xs)
   emptied site s f xs =
       filter_same _ (λ t. unwrap_or (if site == i then Some false else None) (runs i t past)) xs
-          (each_of _ (λ t. runs_next s t ∙ ap (λ (o : Option Bool). unwrap_or o (runs i t past)) (f t)) xs)
+      (each_of _ (λ t. runs_next s t ∙ ap (λ (o : Option Bool). unwrap_or o (runs i t past)) (f t)) xs)
       ∙ by (site == i)
     where
       by : (b : Bool) → filter (λ t. unwrap_or (if b then Some false else None) (runs i t past)) xs ≡ (if b then [] else filter (λ t. runs i t past) xs)

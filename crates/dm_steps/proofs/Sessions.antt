@@ -83,10 +83,10 @@ long_seen layout past h c (said.Refused why) = tt
 
 own_answer : (c number : ℕ) (o : Said) (past : List Step) (b : Bool) (vs : List (List ℕ)) (count : ℕ)
     → join_one (join_all count vs) (seen_by o (named_by o past) (last_begin c past))
-        ≡ join_all count (cons_option (seen_by o (named_by o past) (last_begin c past)) vs)
+    ≡ join_all count (cons_option (seen_by o (named_by o past) (last_begin c past)) vs)
     → (session : ℕ) → (session == c) ≡ b
     → join_all count (cons_option (answered_by c (Reply session number o) past) vs)
-        ≡ (if b then join_one (join_all count vs) (seen_by o (named_by o past) (last_begin c past)) else join_all count vs)
+    ≡ (if b then join_one (join_all count vs) (seen_by o (named_by o past) (last_begin c past)) else join_all count vs)
 own_answer c number (said.Committed site seq) past true vs count h session e = rw e (sym h)
 own_answer c number (said.Committed site seq) past false vs count h session e = rw e refl
 own_answer c number (said.Read site) past true vs count h session e = rw e (sym h)

@@ -108,7 +108,7 @@ module _ (i : ℕ) (s : Step) (past : List Step) where
 module _ (i j : ℕ) (past : List Step) where
   set_or : (b : Bool) (site : ℕ) (vector : List ℕ) (found : Found) (last : Option (List ℕ)) (before : List Step)
       → at (unwrap_or (option_or (if b then Some vector else None) last) []) j + count_of (is_refresh i j)
-          (if b then [] else Restart site vector found ∷ before)
+      (if b then [] else Restart site vector found ∷ before)
       ≡ (if b then at vector j else at (unwrap_or last []) j + count_of (is_refresh i j) before)
   set_or true site vector found last before = omega arith
   set_or false site vector found last before = refl
@@ -138,7 +138,7 @@ module _ (i j : ℕ) (past : List Step) where
     where
       by_test : (b : Bool) → (if b then entry_count i (s ∷ past) else refreshed i j (s ∷ past))
           ≡ (if b then next_count i s (kept_of s past) (if b then entry_count i past else refreshed i j past) else next_refreshed i j s
-              (if b then entry_count i past else refreshed i j past))
+          (if b then entry_count i past else refreshed i j past))
       by_test true = count_next s past i
       by_test false = refreshed_next s
 

@@ -162,23 +162,23 @@ fresh_term false false x = refl
 head_is : (r e site i x : ℕ) (t : Term) → t.epoch ≡ x → t.site ≡ i → t.until ≡ None → is_term r e site t ≡ ((x == e) && ((i == site) && true))
 head_is r e site i x t f g h =
     ap (λ (n : ℕ). (n == e) && ((t.site == site) && ends_after r t.until)) f ∙ ap (λ (n : ℕ). (x == e) && ((n == site) && ends_after r t.until)) g
-        ∙ ap (λ (o : Option ℕ). (x == e) && ((i == site) && ends_after r o)) h
+    ∙ ap (λ (o : Option ℕ). (x == e) && ((i == site) && ends_after r o)) h
 
 closed_same : (r e site n : ℕ) (t : Term) (ts : List Term) → r < n → t.until ≡ None → list_any (is_term r e site) (t ∷ ts)
     ≡ list_any (is_term r e site) (close n (t ∷ ts))
 closed_same r e site n t ts l u =
     ap (λ (b : Bool). ((t.epoch == e) && ((t.site == site) && b)) || list_any (is_term r e site) ts) (ap (λ (o : Option ℕ). ends_after r o) u
-        ∙ sym (lt-ltb r n l))
+    ∙ sym (lt-ltb r n l))
 
 count_step : (r e site : ℕ) (before after : Placing) (ts : List Term) (n : ℕ) (eps : List ℕ) → r < n → Stays before after → Good before ts n
     → is_among eps e ≡ list_any (is_term r e site) ts → is_among (cons_option (settled_epoch site after) eps) e
-        ≡ list_any (is_term r e site) (next_terms before after n ts)
+    ≡ list_any (is_term r e site) (next_terms before after n ts)
 count_step r e site (Settled i x) (Settled j y) [] n eps l s g h = absurd g
 count_step r e site (Settled i x) (Settled j y) (t ∷ ts) n eps l s g h =
     let hd = head_is r e site i x t g.epoch g.site g.open' in
     in_front site e j y eps
     ∙ ap (λ (k : ℕ). if k == site then (y == e) || is_among eps e else is_among eps e) (sym s.0)
-        ∙ ap (λ (k : ℕ). if i == site then (k == e) || is_among eps e else is_among eps e) (sym s.1)
+    ∙ ap (λ (k : ℕ). if i == site then (k == e) || is_among eps e else is_among eps e) (sym s.1)
     ∙ absorb (x == e) (i == site) true (list_any (is_term r e site) ts) (is_among eps e) (h ∙ ap (λ (b : Bool). b || list_any (is_term r e site) ts) hd)
     ∙ ap (λ (b : Bool). b || list_any (is_term r e site) ts) (sym hd)
 count_step r e site (Settled i x) other [] n eps l s g h = absurd g
@@ -230,7 +230,7 @@ module _ (layout : Layout) (c p site e : ℕ) where
       by : (b : Bool) → is_route c s ≡ b → (if b then Some (length past) else route_place c past) ≡ Some r
           → (route_place c past ≡ Some r → is_among (settled_epochs layout past c p site) e ≡ list_any (is_term r e site) (terms layout p past))
           → is_among (cons_option (settled_epoch site (placing layout (s ∷ past) p))
-              (filter_map (settled_epoch site) (if b then [] else placings_since layout past c p))) e
+          (filter_map (settled_epoch site) (if b then [] else placings_since layout past c p))) e
           ≡ list_any (is_term r e site) (next_terms (placing layout past p) (placing layout (s ∷ past) p) (length past) (terms layout p past))
       by true f g k =
           let place : length past ≡ r = cc (g) in
@@ -239,8 +239,8 @@ module _ (layout : Layout) (c p site e : ℕ) where
           ∙ at_route e site (placing layout past p) (terms layout p past) (length past) (good layout p past)
           ∙ ap (λ (n : ℕ). list_any (is_term n e site) (terms layout p past)) place
           ∙ ap (λ (ts : List Term). list_any (is_term r e site) ts)
-              (sym (ap (λ (q : Placing). next_terms (placing layout past p) q (length past) (terms layout p past)) same
-              ∙ next_same (placing layout past p) (length past) (terms layout p past)))
+          (sym (ap (λ (q : Placing). next_terms (placing layout past p) q (length past) (terms layout p past)) same
+          ∙ next_same (placing layout past p) (length past) (terms layout p past)))
       by false f g k =
           count_step r e site (placing layout past p) (placing layout (s ∷ past) p) (terms layout p past) (length past) (settled_epochs layout past c p site)
           (route_before c past r g) (stays_at layout p s past) (good layout p past) (k g)
