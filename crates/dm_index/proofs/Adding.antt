@@ -12,7 +12,7 @@ use Rattle.dm_model.specs.Progress.{entry_count}
 use Rattle.dm_steps.specs.Adding.{with_number, of_origin}
 use Rattle.dm_index.specs.Places.{place_in, places_of, carried, carried_at, with_place, AreEntries}
 use Rattle.dm_steps.proofs.Sites.{entry_next, count_next}
-use Rattle.dm_index.proofs.Numbered.{front, numbered_last, numbered_front, numbered_own, numbered_other}
+use Rattle.dm_steps.proofs.Numbered.{front, numbered_last, numbered_front, numbered_own, numbered_other}
 use Rattle.dm_steps.specs.Pendings.{kept_of, entry_by}
 use Rattle.dm_steps.specs.Slots.{numbered_in}
 

@@ -7,6 +7,7 @@ pub mod Legality
 pub mod Sites
 pub mod Sessions
 pub mod Slots
+pub mod Numbered
 pub mod Floors
 pub mod Outcomes
 pub mod Fresh

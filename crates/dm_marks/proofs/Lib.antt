@@ -1,0 +1,4 @@
+pub mod MarksNext
+pub mod AimsNext
+pub mod Opening
+pub mod Marked

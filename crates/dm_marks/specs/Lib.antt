@@ -1,0 +1,5 @@
+pub mod Marking
+pub mod MarksShown
+pub mod MarksFields
+pub mod Aiming
+pub mod AimsFields

@@ -1,0 +1,4 @@
+pub mod Shown
+pub mod RunsFields
+pub mod Next
+pub mod Running
