@@ -2,9 +2,9 @@
 use Rattle.std.proofs.Common.{ℕ, suc, ◌+◌, ◌-◌, ◌<◌, ◌≤◌, ◌≡◌, ◌≢◌, ◌==◌, Bool, true, false, if◌then◌else◌, List, ◌∷◌, Option, Some, None, length, refl, sym}
 use Rattle.std.proofs.Common.{ap, ◌∙◌}
 use Rattle.std.proofs.Common.{subst, arith, unwrap_or, inl, inr}
-use Rattle.std.proofs.lemmas.Bool.{eqb-true, eq-eqb, ne_eqb, false≢true, and_parts, leb-true, ltb-true, cond-true, cond-false}
-use Rattle.std.specs.List.{range_with_len}
-use Rattle.std.specs.Prelude.{option_map, option_to_list}
+use Rattle.std.proofs.lemmas.Bool.{eqb-true, eqb-false, eq-eqb, ne_eqb, false≢true, and_parts, leb-true, ltb-true, cond-true, cond-false}
+use Rattle.std.specs.List.{range_with_len, sum_by}
+use Rattle.std.specs.Prelude.{option_map, option_to_list, IfSome}
 use Rattle.dm_event.specs.Layout.{Layout, is_session, is_site, is_part}
 use Rattle.dm_event.specs.declared.attempt.AttemptState.{AttemptState}
 use Rattle.dm_event.specs.declared.attempt.AttemptState.TheVariants as stands
@@ -39,10 +39,13 @@ use Rattle.dm_model.specs.Legal.{LegalPast}
 use Rattle.dm_model.specs.Placings.{placing, asked, settled, after_acts}
 use Rattle.dm_model.specs.Rows.{may_route}
 use Rattle.dm_model.specs.Runs.{runs}
-use Rattle.dm_model.specs.Shape.{is_txn}
-use Rattle.dm_room.proofs.Sums.{less_sum, one_sum, one_less}
-use Rattle.dm_room.specs.Room.{live, owed, up, items_of, unanswered, live_attempts, sites_up, steps_owed, need}
+use Rattle.dm_model.specs.Shape.{is_txn, is_shaped}
+use Rattle.dm_room.proofs.Sums.{same_sum, less_sum, two_sums, one_sum, one_less}
+use Rattle.dm_room.specs.Room.{live, owed, up, items_of, unanswered, live_attempts, sites_up, steps_owed, need, reply_need, runs_there, runners, brought_on}
+use Rattle.dm_room.specs.Room.{restart_need}
+use Rattle.dm_steps.proofs.Legality.{pending_shaped}
 use Rattle.dm_steps.proofs.Sites.{down_next}
+use Rattle.dm_steps.specs.Pendings.{kept_of}
 
 live_routed : (st : AttemptState) → is_routed st ≡ true → live st ≡ 1
 live_routed (stands.Routed site choice) h = refl
@@ -282,45 +285,118 @@ module _ (layout : Layout) (items : List ℕ) (past : List Step) (legal : LegalP
       (λ k. answered_less (session == k) (replies k past) (items_of items k)) in
       omega (arith, l, u)
 
+  -- the answer to an item beyond those that were counted
+  pub reply_further : (session number : ℕ) (said : Said) → Allowed layout past (Reply session number said) → unanswered items past session ≡ 0
+      → need layout items past (Reply session number said) ≡ 1 - live (state session past)
+  reply_further session number said a none =
+      let range = (and_parts (is_session session) _ (shape_of layout past (Reply session number said) a)).0 in
+      let l = moves (Reply session number said) session stands.Unrouted (λ k. refl) range in
+      let u = same_sum (λ k. unanswered items past k) (λ k. unanswered items (Reply session number said ∷ past) k) (range_with_len 1 MAX_SESSIONS)
+      (λ k. still k (session == k) refl) in
+      omega (arith, l, u)
+    where
+      still : (k : ℕ) (b : Bool) → (session == k) ≡ b → items_of items k - (if b then suc (replies k past) else replies k past)
+          ≡ items_of items k - replies k past
+      still k true e =
+          let own : items_of items k - replies k past ≡ 0 = ap (λ (c : ℕ). unanswered items past c) (sym (eqb-true session k e)) ∙ none in
+          omega (arith, own)
+      still k false e = refl
+
+  -- what a Reply needs, whether its item was counted or not
+  pub reply_needs : (session number : ℕ) (said : Said) → Allowed layout past (Reply session number said)
+      → need layout items past (Reply session number said) ≡ reply_need (unanswered items past session) (state session past)
+  reply_needs session number said a = by_left (unanswered items past session == 0) refl
+    where
+      by_left : (b : Bool) → (unanswered items past session == 0) ≡ b
+          → need layout items past (Reply session number said) ≡ (if b then 1 - live (state session past) else 0)
+      by_left true e = reply_further session number said a (eqb-true (unanswered items past session) 0 e)
+      by_left false e =
+          let some = eqb-false (unanswered items past session) 0 e in
+          reply_free session number said a (omega (arith, some))
+
   -- ---- Restarts
 
-  -- a pending step that is kept brings its hand-over on
-  kept_on : (site : ℕ) (o : Option Pending) → Held (part_of layout) (mastery layout past) site o → (k : ℕ)
-      → owed (after_acts k (option_to_list (option_map (step_of site) o)) (placing layout past k)) ≤ owed (placing layout past k)
-  kept_on site None h k = omega arith
-  kept_on site (Some (pending.Commit e)) h k = omega arith
-  kept_on site (Some (pending.Release part epoch to vector)) h k = by_part (part == k) refl
+  live_parts : (i : ℕ) (st : AttemptState) → live (dropped_at i st) + runs_there i st ≡ live st
+  live_parts i (stands.Running k) = by_site (k == i)
     where
-      by_part : (b : Bool) → (part == k) ≡ b → owed (if b then Between site epoch to vector else placing layout past k) ≤ owed (placing layout past k)
-      by_part true e =
-          let now : owed (placing layout past k) ≡ 3 = ap (λ (p : ℕ). owed (placing layout past p)) (sym (eqb-true part k e)) ∙ ap owed h.asked in
-          omega (arith, now)
-      by_part false e = omega arith
-  kept_on site (Some (pending.Grant part epoch vector)) h k = by_part (part == k) refl
-    where
-      by_part : (b : Bool) → (part == k) ≡ b → owed (if b then Granted site epoch else placing layout past k) ≤ owed (placing layout past k)
-      by_part true e =
-          let now : owed (placing layout past k) ≡ 2 = ap (λ (p : ℕ). owed (placing layout past p)) (sym (eqb-true part k e)) ∙ ap owed h.between in
-          omega (arith, now)
-      by_part false e = omega arith
+      by_site : (b : Bool) → live (if b then stands.Dropped else stands.Running k) + (if b then 1 else 0) ≡ 1
+      by_site true = refl
+      by_site false = refl
+  live_parts i stands.Unrouted = refl
+  live_parts i (stands.Routed site choice) = refl
+  live_parts i stands.Moved = refl
+  live_parts i (stands.Committed site seq) = refl
+  live_parts i (stands.Ended site) = refl
+  live_parts i (stands.Failed cause) = refl
+  live_parts i (stands.Doubted site) = refl
+  live_parts i stands.Dropped = refl
+
+  abbrev owed_with : ℕ → Option Pending → ℕ → ℕ
+  owed_with site o k = owed (after_acts k (option_to_list (option_map (step_of site) o)) (placing layout past k))
+
+  -- one partition's hand-over is brought on by one step
+  brought : (site : ℕ) (o : Option Pending) (part : ℕ) → is_part layout part ≡ true → ((k : ℕ) → k ≢ part → owed_with site o k ≡ owed (placing layout past k))
+      → owed_with site o part + 1 ≡ owed (placing layout past part)
+      → sum_by (λ k. owed_with site o k) (range_with_len 0 (length layout.masters)) + 1 ≡ steps_owed layout past
+  brought site o part range h e =
+      let l = ltb-true part (length layout.masters) range in
+      let sum = one_sum (λ k. owed (placing layout past k)) (λ k. owed_with site o k) part 0 (length layout.masters) (omega arith) (omega (arith, l)) h in
+      omega (arith, sum, e)
+
+  kept_on : (site : ℕ) (o : Option Pending) → Held (part_of layout) (mastery layout past) site o → IfSome o (λ p. is_shaped layout (Doubt site p) ≡ true)
+      → sum_by (λ k. owed_with site o k) (range_with_len 0 (length layout.masters)) + brought_on o ≡ steps_owed layout past
+  kept_on site None h s = omega arith
+  kept_on site (Some (pending.Commit e)) h s = omega arith
+  kept_on site (Some (pending.Release part epoch to vector)) h s =
+      let range = (and_parts (is_part layout part) _ (and_parts (is_site layout site) _ s).1).0 in
+      let now : owed (placing layout past part) ≡ 3 = ap owed h.asked in
+      let after : owed_with site (Some (pending.Release part epoch to vector)) part ≡ 2 = ap owed (cond-true (part == part) _ _ (eq-eqb part part refl)) in
+      brought site (Some (pending.Release part epoch to vector)) part range
+      (λ k n. ap owed (cond-false (part == k) _ _ (ne_eqb part k (λ e. n (sym e))))) (omega (arith, now, after))
+  kept_on site (Some (pending.Grant part epoch vector)) h s =
+      let range = (and_parts (is_part layout part) _ (and_parts (is_site layout site) _ s).1).0 in
+      let now : owed (placing layout past part) ≡ 2 = ap owed h.between in
+      let after : owed_with site (Some (pending.Grant part epoch vector)) part ≡ 1 = ap owed (cond-true (part == part) _ _ (eq-eqb part part refl)) in
+      brought site (Some (pending.Grant part epoch vector)) part range
+      (λ k n. ap owed (cond-false (part == k) _ _ (ne_eqb part k (λ e. n (sym e))))) (omega (arith, now, after))
 
   restart_owed : (site : ℕ) (vector : List ℕ) (found : Found) → Allowed layout past (Restart site vector found)
-      → steps_owed layout (Restart site vector found ∷ past) ≤ steps_owed layout past
+      → steps_owed layout (Restart site vector found ∷ past) + brought_on (kept_of (Restart site vector found) past) ≡ steps_owed layout past
   restart_owed site vector Clean a = omega arith
   restart_owed site vector Lost a = omega arith
   restart_owed site vector Kept a =
-      less_sum (λ k. owed (placing layout past k)) (λ k. owed (placing layout (Restart site vector Kept ∷ past) k)) (range_with_len 0 (length layout.masters))
-      (kept_on site (pending_at site past) ((mastered_past layout past legal).held site (legal_restart layout past site vector Kept a).fits))
+      kept_on site (pending_at site past) ((mastered_past layout past legal).held site (legal_restart layout past site vector Kept a).fits)
+      (pending_shaped layout site past legal)
 
-  -- it may bring a site up
-  pub restart_few : (site : ℕ) (vector : List ℕ) (found : Found) → Allowed layout past (Restart site vector found)
-      → need layout items past (Restart site vector found) ≤ 2
-  restart_few site vector found a =
+  -- what a Restart needs
+  pub restart_needs : (site : ℕ) (vector : List ℕ) (found : Found) → Allowed layout past (Restart site vector found)
+      → need layout items past (Restart site vector found)
+      ≡ restart_need (is_down site past) (runners site past) (kept_of (Restart site vector found) past)
+  restart_needs site vector found a =
       let range = (and_parts (is_site layout site) _ (shape_of layout past (Restart site vector found) a)).0 in
-      let l = fewer (Restart site vector found) (λ k. live_dropped site (state k past)) in
+      let l = two_sums (λ k. live (state k past)) (λ k. live (dropped_at site (state k past))) (λ k. runs_there site (state k past))
+      (range_with_len 1 MAX_SESSIONS)
+      (λ k. live_parts site (state k past)) in
       let t = turns (Restart site vector found) site false (λ k. down_next k (Restart site vector found) past) range in
       let o = restart_owed site vector found a in
-      omega (arith, l, t, o)
+      by_down (is_down site past) l t o
+    where
+      by_down : (down : Bool) → live_attempts (Restart site vector found ∷ past) + runners site past ≡ live_attempts past
+          → sites_up layout (Restart site vector found ∷ past) + up down ≡ sites_up layout past + 1
+          → steps_owed layout (Restart site vector found ∷ past) + brought_on (kept_of (Restart site vector found) past) ≡ steps_owed layout past
+          → need layout items past (Restart site vector found) ≡ restart_need down (runners site past) (kept_of (Restart site vector found) past)
+      by_down true l t o = omega (arith, l, t, o)
+      by_down false l t o = omega (arith, l, t, o)
+
+  restart_few : (site : ℕ) (vector : List ℕ) (found : Found) → Allowed layout past (Restart site vector found)
+      → need layout items past (Restart site vector found) ≤ 2
+  restart_few site vector found a = few (is_down site past) (restart_needs site vector found a)
+    where
+      few : (down : Bool) → need layout items past (Restart site vector found)
+          ≡ restart_need down (runners site past) (kept_of (Restart site vector found) past)
+          → need layout items past (Restart site vector found) ≤ 2
+      few true e = omega (arith, e)
+      few false e = omega (arith, e)
 
   -- ---- each kind
 

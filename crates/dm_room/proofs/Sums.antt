@@ -18,6 +18,17 @@ less_sum f g (x ∷ xs) h =
     let q = sum_by-cons f x xs in
     omega (arith, a, b, p, q)
 
+-- each term has two parts
+pub two_sums : (f g h : ℕ → ℕ) (xs : List ℕ) → ((k : ℕ) → g k + h k ≡ f k) → sum_by g xs + sum_by h xs ≡ sum_by f xs
+two_sums f g h [] e = refl
+two_sums f g h (x ∷ xs) e =
+    let a = e x in
+    let b = two_sums f g h xs e in
+    let p = sum_by-cons f x xs in
+    let q = sum_by-cons g x xs in
+    let r = sum_by-cons h x xs in
+    omega (arith, a, b, p, q, r)
+
 module _ (f g : ℕ → ℕ) (c : ℕ) where
   outside : (a n : ℕ) → c < a → ((k : ℕ) → k ≢ c → g k ≡ f k) → sum_by g (range_with_len a n) ≡ sum_by f (range_with_len a n)
   outside a zero l h = refl

@@ -1,6 +1,6 @@
 -- For how many further steps a history keeps room: for all that is under way to come to its end.
 use Rattle.std.specs.List.{range_with_len, sum_by}
-use Rattle.std.specs.Prelude.{ℕ, ◌+◌, ◌-◌, Bool, if◌then◌else◌, List, ◌∷◌, length, unwrap_or}
+use Rattle.std.specs.Prelude.{ℕ, ◌+◌, ◌-◌, ◌==◌, Bool, if◌then◌else◌, List, ◌∷◌, Option, Some, None, length, unwrap_or}
 use Rattle.dm_event.specs.Layout.{Layout}
 use Rattle.dm_event.specs.Vectors.{sites_to}
 use Rattle.dm_event.specs.declared.attempt.AttemptState.{AttemptState}
@@ -8,6 +8,8 @@ use Rattle.dm_event.specs.declared.attempt.AttemptState.TheVariants.{Routed, Run
 use Rattle.dm_event.specs.declared.limits.TheConstants.{MAX_SESSIONS}
 use Rattle.dm_event.specs.declared.placing.Placing.{Placing}
 use Rattle.dm_event.specs.declared.placing.Placing.TheVariants.{Settled, Asked, Between, Granted}
+use Rattle.dm_event.specs.declared.step.Pending.{Pending}
+use Rattle.dm_event.specs.declared.step.Pending.TheVariants as pending
 use Rattle.dm_event.specs.declared.step.Step.{Step}
 use Rattle.dm_model.specs.Attempts.{replies, state}
 use Rattle.dm_model.specs.Doubts.{is_down}
@@ -61,3 +63,30 @@ kept layout items past = unanswered_items items past + live_attempts past + site
 -- the room that the step needs beside what is kept
 abbrev pub need : Layout → List ℕ → List Step → Step → ℕ
 need layout items past step = 1 + kept layout items (step ∷ past) - kept layout items past
+
+-- ---- what a step needs, told by what it finds
+
+-- a Reply: nothing where an item of the session is left, which it answers; else its own place, less that of the attempt that it
+-- ends
+abbrev pub reply_need : ℕ → AttemptState → ℕ
+reply_need left now = if left == 0 then 1 - live now else 0
+
+abbrev pub runs_there : ℕ → AttemptState → ℕ
+runs_there i (Running site) = if site == i then 1 else 0
+runs_there i other = 0
+
+-- how many sessions have an attempt that runs at the site
+abbrev pub runners : ℕ → List Step → ℕ
+runners site past = sum_by (λ session. runs_there site (state session past)) (range_with_len 1 MAX_SESSIONS)
+
+-- a release or a grant that is kept brings its hand-over on
+abbrev pub brought_on : Option Pending → ℕ
+brought_on (Some (pending.Release part epoch to vector)) = 1
+brought_on (Some (pending.Grant part epoch vector)) = 1
+brought_on (Some (pending.Commit entry)) = 0
+brought_on None = 0
+
+-- a Restart: its own place and one for a site that it brings up, less those of the attempts that it drops and of the hand-over
+-- that it brings on
+abbrev pub restart_need : Bool → ℕ → Option Pending → ℕ
+restart_need down dropped kept = (if down then 2 else 1) - (dropped + brought_on kept)

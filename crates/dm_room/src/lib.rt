@@ -2,7 +2,7 @@
 //! has no code, and its functions are laws.
 #![tactic(auto)]
 
-ghost use Rattle.std.specs.Prelude.{ℕ, ◌+◌, ◌≡◌, ◌<◌, ◌≤◌, List, ◌∷◌};
+ghost use Rattle.std.specs.Prelude.{ℕ, ◌+◌, ◌≡◌, ◌≤◌, List, ◌∷◌};
 ghost use Rattle.dm_event.specs.Layout.{Layout};
 ghost use Rattle.dm_event.specs.declared.step.Cause.{Cause};
 ghost use Rattle.dm_event.specs.declared.step.Choice.{Choice};
@@ -17,15 +17,16 @@ ghost use Rattle.dm_event.specs.declared.step.Step.TheVariants.{Route, Reply, As
 ghost use Rattle.dm_event.specs.declared.step.Step.TheVariants.{End, Fail, Refresh, Release, Grant, Doubt, Restart};
 ghost use Rattle.dm_event.specs.declared.step.TxnId.{TxnId};
 ghost use Rattle.dm_event.specs.declared.step.Want.{Want};
-ghost use Rattle.dm_model.specs.Attempts.{replies};
+ghost use Rattle.dm_model.specs.Attempts.{state};
+ghost use Rattle.dm_model.specs.Doubts.{is_down};
 ghost use Rattle.dm_model.specs.Legal.{LegalPast};
 ghost use Rattle.dm_room.specs.Installs.{installs_to_come, begins_at};
-ghost use Rattle.dm_room.specs.Room.{items_of, need};
+ghost use Rattle.dm_room.specs.Room.{unanswered, need, reply_need, runners, restart_need};
 ghost use Rattle.dm_steps.specs.Adding.{of_origin};
 ghost use Rattle.dm_steps.specs.Pendings.{kept_of, entry_by};
 
 /// What each kind of step needs in a legal history: no step more than four places, and those by which
-/// something comes to its end none. The answer to an item beyond those that were counted may need one.
+/// something comes to its end none, the answer to a counted item among them.
 pub fn room_needed()
     ensures route { (layout : Layout) (items : List ℕ) (past : List Step) (txn : TxnId) (want : Want) (least : List ℕ) (site : ℕ) (choice : Choice)
         → LegalPast layout (Route txn want least site choice ∷ past) → need layout items past (Route txn want least site choice) ≡ 2 }
@@ -52,10 +53,12 @@ pub fn room_needed()
     ensures doubt { (layout : Layout) (items : List ℕ) (past : List Step) (site : ℕ) (pending : Pending)
         → LegalPast layout (Doubt site pending ∷ past) → need layout items past (Doubt site pending) ≡ 0 }
     ensures reply { (layout : Layout) (items : List ℕ) (past : List Step) (session number : ℕ) (said : Said)
-        → LegalPast layout (Reply session number said ∷ past) → replies session past < items_of items session
-        → need layout items past (Reply session number said) ≡ 0 }
+        → LegalPast layout (Reply session number said ∷ past)
+        → need layout items past (Reply session number said) ≡ reply_need (unanswered items past session) (state session past) }
     ensures restart { (layout : Layout) (items : List ℕ) (past : List Step) (site : ℕ) (vector : List ℕ) (found : Found)
-        → LegalPast layout (Restart site vector found ∷ past) → need layout items past (Restart site vector found) ≤ 2 }
+        → LegalPast layout (Restart site vector found ∷ past)
+        → need layout items past (Restart site vector found)
+        ≡ restart_need (is_down site past) (runners site past) (kept_of (Restart site vector found) past) }
     ensures each { (layout : Layout) (items : List ℕ) (past : List Step) (step : Step)
         → LegalPast layout (step ∷ past) → need layout items past step ≤ 4 }
 {}

@@ -1,5 +1,5 @@
 use Rattle.dm_room.proofs.Needs.{route_needs, begin_needs, ask_needs, refresh_needs, moved_free, commit_free, end_free, fail_free, release_free, grant_free}
-use Rattle.dm_room.proofs.Needs.{settle_free, doubt_free, reply_free, restart_few, each_few}
+use Rattle.dm_room.proofs.Needs.{settle_free, doubt_free, reply_needs, restart_needs, each_few}
 use Rattle.dm_room.proofs.room_needed.Goals as goal
 
 pub returns : goal.returns
@@ -16,7 +16,7 @@ returns c = record {
   grant = λ layout items past site part epoch vector h. grant_free layout items past h.0 site part epoch vector h.1;
   settle = λ layout items past part epoch h. settle_free layout items past h.0 part epoch h.1;
   doubt = λ layout items past site pending h. doubt_free layout items past h.0 site pending h.1;
-  reply = λ layout items past session number said h counted. reply_free layout items past h.0 session number said h.1 counted;
-  restart = λ layout items past site vector found h. restart_few layout items past h.0 site vector found h.1;
+  reply = λ layout items past session number said h. reply_needs layout items past h.0 session number said h.1;
+  restart = λ layout items past site vector found h. restart_needs layout items past h.0 site vector found h.1;
   each = λ layout items past step h. each_few layout items past h.0 step h.1;
 }
