@@ -11,6 +11,7 @@ use Rattle.dm_event.specs.declared.placing.Placing.TheVariants.{Settled, Asked, 
 use Rattle.dm_event.specs.declared.step.Pending.{Pending}
 use Rattle.dm_event.specs.declared.step.Pending.TheVariants as pending
 use Rattle.dm_event.specs.declared.step.Step.{Step}
+use Rattle.dm_event.specs.declared.step.Step.TheVariants.{Route, Reply, Ask, Begin, Refresh, Doubt, Restart}
 use Rattle.dm_model.specs.Attempts.{replies, state}
 use Rattle.dm_model.specs.Doubts.{is_down}
 use Rattle.dm_model.specs.Placings.{placing}
@@ -64,12 +65,7 @@ kept layout items past = unanswered_items items past + live_attempts past + site
 abbrev pub need : Layout → List ℕ → List Step → Step → ℕ
 need layout items past step = 1 + kept layout items (step ∷ past) - kept layout items past
 
--- ---- what a step needs, told by what it finds
-
--- a Reply: nothing where an item of the session is left, which it answers; else its own place, less that of the attempt that it
--- ends
-abbrev pub reply_need : ℕ → AttemptState → ℕ
-reply_need left now = if left == 0 then 1 - live now else 0
+-- ---- one step more
 
 abbrev pub runs_there : ℕ → AttemptState → ℕ
 runs_there i (Running site) = if site == i then 1 else 0
@@ -86,7 +82,22 @@ brought_on (Some (pending.Grant part epoch vector)) = 1
 brought_on (Some (pending.Commit entry)) = 0
 brought_on None = 0
 
--- a Restart: its own place and one for a site that it brings up, less those of the attempts that it drops and of the hand-over
--- that it brings on
-abbrev pub restart_need : Bool → ℕ → Option Pending → ℕ
-restart_need down dropped kept = (if down then 2 else 1) - (dropped + brought_on kept)
+-- what a step adds to what is kept: a Route an attempt, an Ask a hand-over, and a Restart a site, if it was down
+abbrev pub comes_on : Step → (ℕ → Bool) → ℕ
+comes_on (Route txn want least site choice) down = 1
+comes_on (Ask part epoch to txn) down = 3
+comes_on (Restart site vector found) down = if down site then 1 else 0
+comes_on step down = 0
+
+-- what it takes from it, where it is told how many items of a session are left and how its attempt stands, how many run at a
+-- site, and which pending step is kept: a Reply the item and the attempt, a Doubt and a Restart what they drop, and a step of an
+-- attempt or of a hand-over its own place
+abbrev pub comes_off : Step → (ℕ → ℕ) → (ℕ → AttemptState) → (ℕ → ℕ) → Option Pending → ℕ
+comes_off (Reply session number said) left now running step_kept = (if left session == 0 then 0 else 1) + live (now session)
+comes_off (Doubt site left_open) left now running step_kept = 1 + running site
+comes_off (Restart site vector found) left now running step_kept = running site + brought_on step_kept
+comes_off (Route txn want least site choice) left now running step_kept = 0
+comes_off (Ask part epoch to txn) left now running step_kept = 0
+comes_off (Begin site txn begin) left now running step_kept = 0
+comes_off (Refresh site origin) left now running step_kept = 0
+comes_off step left now running step_kept = 1
