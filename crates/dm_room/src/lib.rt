@@ -2,8 +2,10 @@
 //! has no code, and its functions are laws.
 #![tactic(auto)]
 
-ghost use Rattle.std.specs.Prelude.{ℕ, ◌+◌, ◌≡◌, ◌<◌, ◌≤◌, List, ◌∷◌};
+ghost use Rattle.std.specs.List.{range_with_len, sum_by};
+ghost use Rattle.std.specs.Prelude.{ℕ, ◌+◌, ◌-◌, ◌≡◌, ◌<◌, ◌≤◌, List, [], ◌∷◌};
 ghost use Rattle.dm_event.specs.Layout.{Layout};
+ghost use Rattle.dm_event.specs.declared.limits.TheConstants.{MAX_SESSIONS};
 ghost use Rattle.dm_event.specs.declared.step.Cause.{Cause};
 ghost use Rattle.dm_event.specs.declared.step.Choice.{Choice};
 ghost use Rattle.dm_event.specs.declared.step.Entry.{Entry};
@@ -17,15 +19,31 @@ ghost use Rattle.dm_event.specs.declared.step.Step.TheVariants.{Route, Reply, As
 ghost use Rattle.dm_event.specs.declared.step.Step.TheVariants.{End, Fail, Refresh, Release, Grant, Doubt, Restart};
 ghost use Rattle.dm_event.specs.declared.step.TxnId.{TxnId};
 ghost use Rattle.dm_event.specs.declared.step.Want.{Want};
-ghost use Rattle.dm_model.specs.Attempts.{replies};
+ghost use Rattle.dm_model.specs.Attempts.{replies, state};
+ghost use Rattle.dm_model.specs.Doubts.{is_down};
 ghost use Rattle.dm_model.specs.Legal.{LegalPast};
 ghost use Rattle.dm_room.specs.Installs.{installs_to_come, begins_at};
-ghost use Rattle.dm_room.specs.Room.{items_of, need};
+ghost use Rattle.dm_room.specs.Room.{items_of, unanswered, kept, need, runners, comes_on, comes_off};
 ghost use Rattle.dm_steps.specs.Adding.{of_origin};
 ghost use Rattle.dm_steps.specs.Pendings.{kept_of, entry_by};
 
+/// What is kept at the opening, and after one step more of a legal history, from what was kept and what
+/// little the step finds; and so what the step needs.
+pub fn kept_next()
+    ensures opening { (layout : Layout) (items : List ℕ)
+        → kept layout items [] ≡ sum_by (λ session. items_of items session) (range_with_len 1 MAX_SESSIONS) + layout.sites }
+    ensures kept { (layout : Layout) (items : List ℕ) (past : List Step) (step : Step) → LegalPast layout (step ∷ past)
+        → kept layout items (step ∷ past)
+        + comes_off step (λ session. unanswered items past session) (λ session. state session past) (λ site. runners site past) (kept_of step past)
+        ≡ kept layout items past + comes_on step (λ site. is_down site past) }
+    ensures need { (layout : Layout) (items : List ℕ) (past : List Step) (step : Step) → LegalPast layout (step ∷ past)
+        → need layout items past step
+        ≡ 1 + comes_on step (λ site. is_down site past)
+        - comes_off step (λ session. unanswered items past session) (λ session. state session past) (λ site. runners site past) (kept_of step past) }
+{}
+
 /// What each kind of step needs in a legal history: no step more than four places, and those by which
-/// something comes to its end none. The answer to an item beyond those that were counted may need one.
+/// something comes to its end none, the answer to a counted item among them.
 pub fn room_needed()
     ensures route { (layout : Layout) (items : List ℕ) (past : List Step) (txn : TxnId) (want : Want) (least : List ℕ) (site : ℕ) (choice : Choice)
         → LegalPast layout (Route txn want least site choice ∷ past) → need layout items past (Route txn want least site choice) ≡ 2 }
