@@ -3,8 +3,8 @@ use Rattle.std.specs.Prelude.{option_to_list}
 use Rattle.dm_event.specs.declared.placing.Placing.{Placing}
 use Rattle.dm_model.specs.Outcomes.{settled_epoch}
 use Rattle.dm_model.specs.Tests.{is_among}
-use Rattle.dm_outcomes.proofs.Settling.{stood_more, stands_same}
-use Rattle.dm_outcomes.proofs.since.stood_settled.Goals as goal
+use Rattle.dm_plain.proofs.Settling.{stood_more, stands_same}
+use Rattle.dm_plain.proofs.since.stood_settled.Goals as goal
 
 pub loop-i-preserved : goal.loop-i-preserved
 loop-i-preserved c =

@@ -4,8 +4,10 @@ ghost use Rattle.std.specs.Prelude.{◌≡◌, ◌<◌, ◌||◌, ◌&&◌, not,
 ghost use Rattle.dm_model.specs.Outcomes.{settled_epoch, settled_epochs, restarted_since};
 ghost use Rattle.dm_model.specs.Tests.{is_among};
 
+use crate::attempts::is_route;
+use crate::placings::placing;
+use crate::progress::is_restart;
 use dm_event::{Part, Placing, Schema, SiteNo, Step};
-use dm_plain::{is_restart, is_route, placing};
 
 fn settled_epoch(site: SiteNo, now: Placing) -> Option<u64>
     ensures { result ≡ settled_epoch site now }
@@ -34,7 +36,7 @@ fn stands(here: bool, routed: bool, before: bool) -> bool
 
 /// Whether the partition stood settled at the site under the epoch, at the session's last Route or
 /// later.
-pub(crate) fn stood_settled(
+pub fn stood_settled(
     schema: &Schema,
     steps: &[Step],
     session: u32,
@@ -58,7 +60,7 @@ pub(crate) fn stood_settled(
 
 /// The last epoch under which the partition stood settled at the site, from the session's last Route
 /// on.
-pub(crate) fn last_settled(
+pub fn last_settled(
     schema: &Schema,
     steps: &[Step],
     session: u32,
@@ -81,8 +83,8 @@ pub(crate) fn last_settled(
 }
 
 /// Whether the site was restarted after the session's last Route.
-#[tactic(auto, using(dm_plain::proofs::Past::past_more))]
-pub(crate) fn restarted_since(steps: &[Step], session: u32, site: SiteNo) -> bool
+#[tactic(auto, using(crate::proofs::Past::past_more))]
+pub fn restarted_since(steps: &[Step], session: u32, site: SiteNo) -> bool
     ensures { result ≡ restarted_since session site (reverse steps.now) }
 {
     let mut found = false;
