@@ -11,7 +11,7 @@ use Rattle.dm_event.specs.declared.step.Step.{Step}
 use Rattle.dm_model.specs.Choices.{parts_in_order}
 use Rattle.dm_model.specs.Placings.{placing, may_begin_now}
 use Rattle.dm_clauses.specs.Judging.{away}
-use Rattle.dm_plain.proofs.Finding.{rest_is}
+use Rattle.dm_steps.proofs.Finding.{rest_is}
 
 -- a key in range has its partition
 pub part_is : (layout : Layout) (key : ℕ) → is_key layout key ≡ true → part_of layout key ≡ Some (key / layout.width)

@@ -17,7 +17,7 @@ use Rattle.dm_model.specs.Legal.{LegalPast}
 use Rattle.dm_model.specs.Placings.{placing, home_now, asked, settled, after_acts}
 use Rattle.dm_model.specs.Shape.{is_shaped}
 use Rattle.dm_model.proofs.LegalSteps.{legal_release, legal_grant}
-use Rattle.dm_plain.proofs.Legality.{pending_shaped}
+use Rattle.dm_steps.proofs.Legality.{pending_shaped}
 
 -- the number is a site's
 abbrev pub InSites : ℕ → ℕ → Type 0

@@ -6,7 +6,7 @@ use Rattle.dm_event.specs.declared.step.Entry.{Entry}
 use Rattle.dm_event.specs.declared.step.Step.{Step}
 use Rattle.dm_model.specs.Acts.{entry_at}
 use Rattle.dm_model.specs.Legal.{LegalPast}
-use Rattle.dm_plain.proofs.Legality.{made_entry}
+use Rattle.dm_steps.proofs.Legality.{made_entry}
 
 pub entry_fits : (layout : Layout) (past : List Step) → LegalPast layout past → (j n : ℕ) (o : Option (Bor Entry)) → option_copied o ≡ entry_at j n past
     → IfSome o (λ entry. (1 ≤ entry.now.origin) × (entry.now.origin ≤ length entry.now.begin))

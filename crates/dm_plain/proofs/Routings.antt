@@ -6,7 +6,8 @@ use Rattle.dm_event.specs.declared.step.Step.{Step}
 use Rattle.dm_event.specs.declared.step.TxnId.{TxnId}
 use Rattle.dm_model.specs.Attempts.{last_routing, routing}
 use Rattle.dm_model.specs.Words.{latest}
-use Rattle.dm_plain.specs.Routings.{routing_by, wanted_by, want_of, routed_by}
+use Rattle.dm_plain.specs.Routings.{routing_by, wanted_by, want_of}
+use Rattle.dm_steps.specs.Adding.{routed_by}
 use Rattle.dm_told.specs.Routings.{without_want}
 
 map_or : {A B : Type 0} (f : A → B) (a b : Option A) → option_or (option_map f a) (option_map f b) ≡ option_map f (option_or a b)

@@ -15,9 +15,6 @@ routing_by session s = option_map without_want (routing_of (λ txn. txn.session 
 abbrev pub wanted_by : ℕ → Step → Option Want
 wanted_by session s = option_map (λ r. r.want) (routing_of (λ txn. txn.session == session) s)
 
-abbrev pub routed_by : ℕ → Step → Option TxnId
-routed_by session s = option_map (λ r. r.txn) (routing_of (λ txn. txn.session == session) s)
-
 -- what the step wants, if it is the Route of the attempt
 abbrev pub want_of : TxnId → Step → Option Want
 want_of t s = option_map (λ r. r.want) (routing_of (same_txn t) s)

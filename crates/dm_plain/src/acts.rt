@@ -3,7 +3,7 @@
 ghost use Rattle.std.specs.Prelude.{◌≡◌, ◌<◌, ◌≤◌, ◌^◌, length, reverse, option_copied, option_to_list, filter_map};
 ghost use Rattle.dm_model.specs.Acts.{acts_of, entry_of, entry_at};
 ghost use Rattle.dm_model.specs.Progress.{entry_count};
-ghost use Rattle.dm_plain.specs.Adding.{kept_entry, of_origin, with_number};
+ghost use Rattle.dm_steps.specs.Adding.{kept_entry, of_origin, with_number};
 
 use crate::doubts::pending_at;
 use dm_event::{Entry, Found, Pending, SiteNo, Step};

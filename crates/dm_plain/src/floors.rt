@@ -9,7 +9,7 @@ ghost use Rattle.dm_model.specs.Floors.{floor_vector, floor};
 ghost use Rattle.dm_model.specs.Legal.{Legal};
 ghost use Rattle.dm_model.specs.Progress.{entry_count};
 ghost use Rattle.dm_model.specs.Shape.{is_entry, is_shaped};
-ghost use Rattle.dm_plain.specs.Adding.{kept_floor, floor_by, unclosed_one};
+ghost use Rattle.dm_steps.specs.Adding.{kept_floor, floor_by, unclosed_one};
 
 use crate::acts::{entry_count, entry_of, is_of, kept_entry};
 use crate::doubts::pending_at;

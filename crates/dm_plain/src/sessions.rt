@@ -6,7 +6,8 @@ ghost use Rattle.dm_model.specs.Acts.{entry_at};
 ghost use Rattle.dm_model.specs.Legal.{Legal};
 ghost use Rattle.dm_model.specs.Runs.{last_begin};
 ghost use Rattle.dm_model.specs.Sessions.{answered_by, session_vector};
-ghost use Rattle.dm_plain.specs.Adding.{said_vector, join_one};
+ghost use Rattle.dm_steps.specs.Adding.{join_one};
+ghost use Rattle.dm_plain.specs.Adding.{said_vector};
 
 use crate::acts::entry_at;
 use crate::running::last_begin;

@@ -3,7 +3,7 @@
 ghost use Rattle.std.specs.Prelude.{◌≡◌, reverse, option_copied};
 ghost use Rattle.dm_model.specs.Acts.{entries};
 ghost use Rattle.dm_model.specs.Values.{newest, value};
-ghost use Rattle.dm_plain.specs.Adding.{written_by};
+ghost use Rattle.dm_steps.specs.Adding.{written_by};
 
 use crate::acts::entry_of;
 use dm_body::written;

@@ -1,2 +1,1 @@
-pub mod KeyParts
 pub mod WhoIsCurrent

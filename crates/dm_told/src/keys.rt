@@ -46,7 +46,7 @@ fn is_any_of(schema: &Schema, keys: &[Key], part: Part) -> bool
 }
 
 /// Whether one of the keys is of the partition.
-#[tactic(auto, using(crate::proofs::KeyParts::any_part))]
+#[tactic(auto, using(dm_steps::proofs::Finding::any_part))]
 pub fn has_part(schema: &Schema, keys: &[Key], part: Part) -> bool
     ensures { result ≡ is_among (parts_in_order schema.now keys.now) part }
 {

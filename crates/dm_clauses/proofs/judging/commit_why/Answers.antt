@@ -1,7 +1,7 @@
 use Rattle.std.proofs.Common.{ℕ, List, Option, ap, sym, ◌∙◌, arith}
 use Rattle.std.specs.Prelude.{reverse, is_some}
 use Rattle.dm_model.specs.Bodies.{ran_at}
-use Rattle.dm_plain.proofs.Legality.{runner_began}
+use Rattle.dm_steps.proofs.Legality.{runner_began}
 use Rattle.dm_clauses.proofs.judging.commit_why.Goals as goal
 
 pub overflow_add-reads : goal.overflow_add-reads

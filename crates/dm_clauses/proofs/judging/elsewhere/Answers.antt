@@ -2,7 +2,7 @@ use Rattle.std.proofs.Common.{◌+◌, ℕ, List, Option, ap, sym, ◌∙◌, dr
 use Rattle.std.specs.Prelude.{reverse}
 use Rattle.std.specs.Option.{option_or}
 use Rattle.dm_clauses.proofs.Elsewhere.{left, left_at, key_in}
-use Rattle.dm_plain.proofs.Past.{drop_all}
+use Rattle.dm_steps.proofs.Past.{drop_all}
 use Rattle.dm_clauses.proofs.judging.elsewhere.Goals as goal
 
 pub away-requires : goal.away-requires

@@ -5,7 +5,7 @@ use Rattle.dm_model.specs.Clauses.{first}
 use Rattle.dm_model.specs.Rows.{end_row}
 use Rattle.dm_model.specs.Runs.{began_at}
 use Rattle.dm_model.specs.Tests.{same_pairs}
-use Rattle.dm_plain.proofs.Legality.{unbegun_idle}
+use Rattle.dm_steps.proofs.Legality.{unbegun_idle}
 use Rattle.dm_clauses.proofs.judging.end_why.Goals as goal
 
 pub returns-in_default : goal.returns-in_default

@@ -2,7 +2,7 @@ use Rattle.std.proofs.Common.{ℕ, List, ap, ◌∙◌}
 use Rattle.std.specs.Prelude.{reverse}
 use Rattle.std.specs.List.{list_all}
 use Rattle.dm_event.specs.Layout.{is_key}
-use Rattle.dm_plain.proofs.Legality.{declared_in}
+use Rattle.dm_steps.proofs.Legality.{declared_in}
 use Rattle.dm_clauses.proofs.judging.moved_why.Goals as goal
 
 pub elsewhere-requires : goal.elsewhere-requires

@@ -2,8 +2,8 @@ use Rattle.std.proofs.Common.{Option, ap, ◌∙◌}
 use Rattle.std.specs.Prelude.{reverse, option_to_list}
 use Rattle.dm_event.specs.declared.step.Entry.{Entry}
 use Rattle.dm_event.specs.declared.step.Pending.{Pending}
-use Rattle.dm_plain.specs.Adding.{kept_entry}
-use Rattle.dm_plain.proofs.Entries.{entry_kept}
+use Rattle.dm_steps.specs.Adding.{kept_entry}
+use Rattle.dm_steps.proofs.Entries.{entry_kept}
 use Rattle.dm_plain.proofs.acts.entry_of.Goals as goal
 
 pub returns-in-Restart : goal.returns-in-Restart

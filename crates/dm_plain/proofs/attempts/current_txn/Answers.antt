@@ -2,8 +2,8 @@ use Rattle.std.proofs.Common.{List, ap, ◌∙◌, reverse}
 use Rattle.dm_event.specs.declared.step.Step.{Step}
 use Rattle.dm_model.specs.Words.{latest, since}
 use Rattle.dm_model.specs.Attempts.{is_reply}
-use Rattle.dm_plain.specs.Routings.{routed_by}
-use Rattle.dm_plain.proofs.Past.{past_whole}
+use Rattle.dm_steps.specs.Adding.{routed_by}
+use Rattle.dm_steps.proofs.Past.{past_whole}
 use Rattle.dm_plain.proofs.Routings.{routed_last}
 use Rattle.dm_plain.proofs.attempts.current_txn.Goals as goal
 

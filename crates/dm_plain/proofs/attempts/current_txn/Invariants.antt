@@ -1,7 +1,7 @@
 use Rattle.std.proofs.Common.{◌≡◌, take}
 use Rattle.std.specs.Prelude.{reverse}
 use Rattle.dm_model.specs.Words.{latest, since}
-use Rattle.dm_plain.specs.Routings.{routed_by}
+use Rattle.dm_steps.specs.Adding.{routed_by}
 use Rattle.dm_model.specs.Attempts.{is_reply}
 use Rattle.dm_plain.proofs.attempts.current_txn.Given as goal
 

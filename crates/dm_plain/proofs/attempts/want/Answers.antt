@@ -2,7 +2,7 @@ use Rattle.std.proofs.Common.{List, ap, ◌∙◌, reverse}
 use Rattle.dm_event.specs.declared.step.Step.{Step}
 use Rattle.dm_model.specs.Words.{latest}
 use Rattle.dm_plain.specs.Routings.{want_of}
-use Rattle.dm_plain.proofs.Past.{past_whole}
+use Rattle.dm_steps.proofs.Past.{past_whole}
 use Rattle.dm_plain.proofs.Routings.{want_last}
 use Rattle.dm_plain.proofs.attempts.want.Goals as goal
 

@@ -2,8 +2,8 @@ use Rattle.std.proofs.Common.{Option, ap, ◌∙◌, arith}
 use Rattle.std.specs.Prelude.{reverse}
 use Rattle.dm_event.specs.declared.step.Entry.{Entry}
 use Rattle.dm_event.specs.declared.step.Pending.{Pending}
-use Rattle.dm_plain.specs.Adding.{kept_entry, of_origin}
-use Rattle.dm_plain.proofs.Entries.{count_counted}
+use Rattle.dm_steps.specs.Adding.{kept_entry, of_origin}
+use Rattle.dm_steps.proofs.Entries.{count_counted}
 use Rattle.dm_plain.proofs.floors.entry_count_with_kept.Goals as goal
 
 pub returns : goal.returns

@@ -4,8 +4,8 @@ use Rattle.dm_event.specs.declared.step.Pending.{Pending}
 use Rattle.dm_event.specs.declared.step.Step.{Step}
 use Rattle.dm_event.specs.declared.step.Step.TheVariants.{Doubt}
 use Rattle.dm_model.specs.Shape.{is_shaped}
-use Rattle.dm_plain.specs.Adding.{kept_floor, floor_by}
-use Rattle.dm_plain.proofs.Legality.{pending_shaped}
+use Rattle.dm_steps.specs.Adding.{kept_floor, floor_by}
+use Rattle.dm_steps.proofs.Legality.{pending_shaped}
 use Rattle.dm_plain.proofs.floors.floor_by.Goals as goal
 
 pub kept_floor-requires : goal.kept_floor-requires

@@ -6,10 +6,10 @@ use Rattle.dm_event.specs.declared.step.Pending.{Pending}
 use Rattle.dm_event.specs.declared.step.Step.TheVariants.{Doubt}
 use Rattle.dm_model.specs.Floors.{floor_vectors}
 use Rattle.dm_model.specs.Shape.{is_shaped}
-use Rattle.dm_plain.specs.Adding.{join_one, kept_floor}
-use Rattle.dm_plain.proofs.Components.{join_one_more, long_both}
-use Rattle.dm_plain.proofs.FloorVectors.{floor_counted}
-use Rattle.dm_plain.proofs.Legality.{pending_shaped}
+use Rattle.dm_steps.specs.Adding.{join_one, kept_floor}
+use Rattle.dm_steps.proofs.Components.{join_one_more, long_both}
+use Rattle.dm_steps.proofs.FloorVectors.{floor_counted}
+use Rattle.dm_steps.proofs.Legality.{pending_shaped}
 use Rattle.dm_plain.proofs.floors.floor_with_kept.Goals as goal
 
 pub kept_floor-requires : goal.kept_floor-requires

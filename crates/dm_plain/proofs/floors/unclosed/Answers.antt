@@ -3,7 +3,8 @@ use Rattle.std.specs.Prelude.{reverse, option_map, option_copied}
 use Rattle.std.specs.Option.{option_or}
 use Rattle.dm_model.specs.Acts.{entries}
 use Rattle.dm_model.specs.Closed.{unclosed}
-use Rattle.dm_plain.proofs.Entries.{named, unclosed_after}
+use Rattle.dm_steps.proofs.Entries.{named}
+use Rattle.dm_plain.proofs.Entries.{unclosed_after}
 use Rattle.dm_plain.proofs.floors.unclosed.Goals as goal
 
 pub loop-i-preserved : goal.loop-i-preserved

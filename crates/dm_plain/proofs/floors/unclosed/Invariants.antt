@@ -2,7 +2,7 @@ use Rattle.std.proofs.Common.{◌≡◌, take}
 use Rattle.std.specs.Prelude.{reverse, option_map}
 use Rattle.dm_model.specs.Acts.{entries}
 use Rattle.dm_model.specs.Closed.{unclosed}
-use Rattle.dm_plain.proofs.Entries.{named}
+use Rattle.dm_steps.proofs.Entries.{named}
 use Rattle.dm_plain.proofs.floors.unclosed.Given as goal
 
 abbrev pub invariant-loop-i : goal.invariant-loop-i

@@ -5,8 +5,8 @@ use Rattle.dm_event.specs.declared.step.Entry.{Entry}
 use Rattle.dm_event.specs.declared.step.Pending.{Pending}
 use Rattle.dm_model.specs.Acts.{entries}
 use Rattle.dm_model.specs.Closed.{unclosed}
-use Rattle.dm_plain.specs.Adding.{kept_entry, unclosed_one}
-use Rattle.dm_plain.proofs.Entries.{named, unclosed_counted}
+use Rattle.dm_steps.specs.Adding.{kept_entry, unclosed_one}
+use Rattle.dm_steps.proofs.Entries.{named, unclosed_counted}
 use Rattle.dm_plain.proofs.floors.unclosed_with_kept.Goals as goal
 
 pub returns : goal.returns

@@ -2,7 +2,7 @@ use Rattle.std.proofs.Common.{Option, ap, ◌∙◌}
 use Rattle.std.specs.Prelude.{reverse}
 use Rattle.dm_event.specs.declared.step.Pending.{Pending}
 use Rattle.dm_plain.specs.Adding.{kept_placing}
-use Rattle.dm_plain.proofs.Entries.{placing_kept}
+use Rattle.dm_plain.proofs.KeptPlacings.{placing_kept}
 use Rattle.dm_plain.proofs.placings.placed_by.Goals as goal
 
 pub returns-in-Restart : goal.returns-in-Restart

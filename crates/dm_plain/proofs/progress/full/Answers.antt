@@ -1,6 +1,6 @@
 use Rattle.std.proofs.Common.{arith, reverse}
 use Rattle.dm_model.specs.Progress.{entry_count}
-use Rattle.dm_plain.proofs.Components.{vector_is}
+use Rattle.dm_steps.proofs.Components.{vector_is}
 use Rattle.dm_plain.proofs.progress.full.Goals as goal
 
 pub returns : goal.returns

@@ -3,7 +3,7 @@ use Rattle.std.specs.Prelude.{reverse}
 use Rattle.std.specs.Prelude.{unwrap_or}
 use Rattle.std.proofs.lemmas.List.{length-reverse}
 use Rattle.dm_event.specs.Vectors.{at}
-use Rattle.dm_plain.proofs.Legality.{refreshed_few}
+use Rattle.dm_steps.proofs.Legality.{refreshed_few}
 use Rattle.dm_plain.proofs.progress.reached.Goals as goal
 
 pub overflow_add-result : goal.overflow_add-result

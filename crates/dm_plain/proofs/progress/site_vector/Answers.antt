@@ -1,6 +1,6 @@
 use Rattle.std.proofs.Common.{arith, reverse}
 use Rattle.dm_model.specs.Progress.{reached}
-use Rattle.dm_plain.proofs.Components.{vector_is}
+use Rattle.dm_steps.proofs.Components.{vector_is}
 use Rattle.dm_plain.proofs.progress.site_vector.Goals as goal
 
 pub returns : goal.returns

@@ -2,7 +2,7 @@ use Rattle.std.proofs.Common.{sym, ◌∙◌}
 use Rattle.std.proofs.Common.{get_or}
 use Rattle.std.proofs.lemmas.Grind.{get_or_default_zero}
 use Rattle.dm_model.specs.Tests.{is_among}
-use Rattle.dm_plain.proofs.Finding.{find_on}
+use Rattle.dm_steps.proofs.Finding.{find_on}
 use Rattle.dm_plain.proofs.running.common_key.Goals as goal
 
 pub loop-key-preserved : goal.loop-key-preserved

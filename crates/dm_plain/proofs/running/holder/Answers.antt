@@ -5,7 +5,7 @@ use Rattle.dm_event.specs.declared.step.TxnId.{TxnId}
 use Rattle.dm_event.specs.declared.step.Step.{Step}
 use Rattle.dm_model.specs.Allowed.{holder_among}
 use Rattle.dm_plain.proofs.Finding.{live, holder_of, holder_at}
-use Rattle.dm_plain.proofs.Past.{drop_all}
+use Rattle.dm_steps.proofs.Past.{drop_all}
 use Rattle.dm_plain.proofs.running.holder.Goals as goal
 
 pub returns-in-Some : goal.returns-in-Some

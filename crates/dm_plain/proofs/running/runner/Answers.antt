@@ -4,7 +4,7 @@ use Rattle.std.specs.Option.{option_or}
 use Rattle.dm_event.specs.declared.step.Step.{Step}
 use Rattle.dm_event.specs.declared.step.TxnId.{TxnId}
 use Rattle.dm_plain.proofs.Finding.{on_part, runner_of, runner_at}
-use Rattle.dm_plain.proofs.Past.{drop_all}
+use Rattle.dm_steps.proofs.Past.{drop_all}
 use Rattle.dm_plain.proofs.running.runner.Goals as goal
 
 pub returns-in-Some : goal.returns-in-Some

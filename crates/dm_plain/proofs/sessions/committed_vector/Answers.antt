@@ -1,6 +1,6 @@
 use Rattle.std.proofs.Common.{ℕ, List, ap, sym, ◌∙◌, length}
 use Rattle.std.specs.Prelude.{reverse}
-use Rattle.dm_plain.proofs.Legality.{made_entry, long_commit}
+use Rattle.dm_steps.proofs.Legality.{made_entry, long_commit}
 use Rattle.dm_plain.proofs.sessions.committed_vector.Goals as goal
 
 pub commit_vector-requires : goal.commit_vector-requires

@@ -1,7 +1,7 @@
 use Rattle.std.proofs.Common.{◌≡◌, ℕ, List, Option, Some, None, sym, ◌∙◌, refl, length}
 use Rattle.std.specs.Prelude.{reverse}
 use Rattle.std.specs.Prelude.{IfSome}
-use Rattle.dm_plain.proofs.Legality.{long_begin}
+use Rattle.dm_steps.proofs.Legality.{long_begin}
 use Rattle.dm_plain.proofs.sessions.read_vector.Goals as goal
 
 pub returns-clause-sites : goal.returns-clause-sites

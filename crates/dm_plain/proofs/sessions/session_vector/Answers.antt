@@ -4,9 +4,9 @@ use Rattle.std.specs.List.{cons_option}
 use Rattle.dm_event.specs.declared.step.Step.{Step}
 use Rattle.dm_event.specs.Vectors.{join_all}
 use Rattle.dm_model.specs.Sessions.{answered}
-use Rattle.dm_plain.specs.Adding.{join_one}
-use Rattle.dm_plain.proofs.Components.{join_none, join_one_more, long_both}
-use Rattle.dm_plain.proofs.Past.{past_more, legal_front}
+use Rattle.dm_steps.specs.Adding.{join_one}
+use Rattle.dm_steps.proofs.Components.{join_none, join_one_more, long_both}
+use Rattle.dm_steps.proofs.Past.{past_more, legal_front}
 use Rattle.dm_plain.proofs.sessions.session_vector.Goals as goal
 
 pub loop-i-init : goal.loop-i-init

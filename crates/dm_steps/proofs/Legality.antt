@@ -1,16 +1,13 @@
 -- What legality says of the numbers in a list of steps.
 use Rattle.std.proofs.Common.{ℕ, ◌≤◌, ◌≡◌, ◌≢◌, Bool, true, false, cond, List, [], ◌∷◌, Option, Some, None, length, refl, ap, sym, ◌∙◌, arith, subst, eqb-true}
-use Rattle.std.proofs.Common.{eq-eqb}
-use Rattle.std.specs.Prelude.{option_map, ◌==◌, ◌&&◌, if◌then◌else◌, is_some, unwrap_or, IfSome}
+use Rattle.std.specs.Prelude.{option_map, ◌==◌, ◌&&◌, is_some, unwrap_or, IfSome}
 use Rattle.std.specs.List.{AllByRecursion as Each, list_all}
 use Rattle.std.specs.Option.{option_or}
-use Rattle.std.proofs.lemmas.Bool.{and_parts, cond-true, cond-false, ne_eqb, both_ways}
+use Rattle.std.proofs.lemmas.Bool.{and_parts, cond-false, ne_eqb, both_ways}
 use Rattle.dm_event.specs.Layout.{Layout, is_key}
 use Rattle.dm_event.specs.Vectors.{sites_to}
 use Rattle.dm_event.specs.declared.step.Entry.{Entry}
 use Rattle.dm_event.specs.declared.step.Pending.{Pending}
-use Rattle.dm_event.specs.declared.step.Said.{Said}
-use Rattle.dm_event.specs.declared.step.Said.TheVariants as said
 use Rattle.dm_event.specs.declared.step.Step.{Step}
 use Rattle.dm_event.specs.declared.step.Step.TheVariants.{Route, Reply, Ask, Settle, Begin, Moved, Commit, End, Fail, Refresh, Release, Grant, Doubt, Restart}
 use Rattle.dm_event.specs.declared.step.TxnId.{TxnId}
@@ -23,7 +20,6 @@ use Rattle.dm_model.specs.Doubts.{pending_at}
 use Rattle.dm_model.specs.Legal.{LegalPast}
 use Rattle.dm_model.specs.Progress.{entry_count, reached, refreshed}
 use Rattle.dm_model.specs.Runs.{begin_of, runs, run_site, begin_vector}
-use Rattle.dm_model.specs.Sessions.{answered_by}
 use Rattle.dm_model.specs.Shape.{is_shaped, is_want, is_ascending}
 use Rattle.dm_model.specs.Words.{latest}
 use Rattle.dm_model.proofs.LaggingRefresh.{Grounded, grounded_past}
@@ -32,8 +28,7 @@ use Rattle.dm_model.proofs.Judged.{shape_of}
 use Rattle.dm_model.proofs.LegalSteps.{legal_route, legal_begin}
 use Rattle.dm_model.proofs.ListFacts.{found_each, found_holds}
 use Rattle.dm_model.proofs.NumbersSound.{sound_past}
-use Rattle.dm_plain.specs.Adding.{said_vector}
-use Rattle.dm_plain.proofs.Entries.{few_entries}
+use Rattle.dm_steps.proofs.Entries.{few_entries}
 
 -- ---- entries
 
@@ -136,32 +131,6 @@ wanted_fits layout c past h w e = by_last (last_routing c past) refl e
     by_last : (o : Option Routing) → last_routing c past ≡ o → option_map (λ r. r.want) o ≡ Some w → is_want layout w ≡ true
     by_last None f g = absurd (cc (g))
     by_last (Some r) f g = let same : r.want ≡ w = cc (g) in ap (is_want layout) (sym same) ∙ (fitting_route layout _ past h r f).wants
-
--- ---- what a session was answered
-
-none_either : (b : Bool) → ◌≡◌ {A = Option (List ℕ)} None (if b then None else None)
-none_either true = refl
-none_either false = refl
-
-by_said : (c session number : ℕ) (said : Said) (past : List Step) → answered_by c (Reply session number said) past ≡ (if session == c
-    then said_vector c said past else None)
-by_said c session number (said.Committed site seq) past = refl
-by_said c session number (said.Read site) past = refl
-by_said c session number (said.InDoubt site) past = none_either (session == c)
-by_said c session number (said.Placed part site epoch) past = none_either (session == c)
-by_said c session number (said.Restarted site) past = none_either (session == c)
-by_said c session number (said.Refused why) past = none_either (session == c)
-
--- a Reply adds what its outcome adds to its own session
-pub answered_own : (c : ℕ) (s : Step) (past : List Step) (session number : ℕ) (said : Said) → s ≡ Reply session number said → session ≡ c
-    → said_vector c said past ≡ answered_by c s past
-answered_own c s past session number said e f =
-    sym (cond-true (session == c) _ _ (eq-eqb session c f)) ∙ sym (by_said c session number said past) ∙ ap (λ (t : Step). answered_by c t past) (sym e)
-
-pub answered_other : (c : ℕ) (s : Step) (past : List Step) (session number : ℕ) (said : Said) → s ≡ Reply session number said → (session ≡ c → ⊥)
-    → None ≡ answered_by c s past
-answered_other c s past session number said e f =
-    sym (cond-false (session == c) _ _ (ne_eqb session c f)) ∙ sym (by_said c session number said past) ∙ ap (λ (t : Step). answered_by c t past) (sym e)
 
 -- ---- running attempts
 

@@ -4,7 +4,7 @@ use Rattle.std.specs.Prelude.{replicate, map, Option, Some, None, IfSome}
 use Rattle.std.specs.List.{cons_option}
 use Rattle.dm_event.specs.Vectors.{at, vector_by, join_all, join, greatest}
 use Rattle.dm_event.proofs.Components.{at_join, same_components, zeros_from, long_join}
-use Rattle.dm_plain.specs.Adding.{join_one}
+use Rattle.dm_steps.specs.Adding.{join_one}
 use Rattle.dm_model.proofs.VectorFacts.{at_by, long_by}
 
 -- a vector with these components is the one of the function

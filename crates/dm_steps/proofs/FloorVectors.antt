@@ -13,7 +13,7 @@ use Rattle.dm_model.specs.Acts.{acts, acts_of}
 use Rattle.dm_model.specs.Allowed.{with_kept}
 use Rattle.dm_model.specs.Doubts.{step_of, pending_at}
 use Rattle.dm_model.specs.Floors.{floor_vector, floor_vectors}
-use Rattle.dm_plain.specs.Adding.{kept_floor, floor_by}
+use Rattle.dm_steps.specs.Adding.{kept_floor, floor_by}
 
 -- the vectors of the act of a kept step
 kept_act : (i site : ℕ) (o : Option Pending) (vs : List (List ℕ)) → filter_map (floor_vector i) (option_to_list (option_map (step_of site) o))

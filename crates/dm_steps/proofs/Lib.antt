@@ -1,0 +1,14 @@
+pub mod Past
+pub mod Finding
+pub mod Entries
+pub mod Components
+pub mod FloorVectors
+pub mod Legality
+pub mod Sites
+pub mod Sessions
+pub mod Slots
+pub mod Floors
+pub mod Outcomes
+pub mod Fresh
+pub mod Running
+pub mod Terms
