@@ -115,6 +115,7 @@ impl Book {
     fn listed(&self) -> Listed<'_>
         ensures layout { result.layout ≡ self.now.layout }
         ensures past { result.past ≡ past self.now }
+        ensures legal { Legal self.now.layout self.now.steps }
     {
         Listed::new(&self.schema, &self.steps, &self.window)
     }
