@@ -172,13 +172,7 @@ fn commit_why<T: Told>(told: &T, entry: &Entry) -> Option<Why>
     commit_refusal(reads, has_writes(ops), entry)
 }
 
-fn end_why<T: Told>(
-    told: &T,
-    site: SiteNo,
-    txn: TxnId,
-    ops: &[Op],
-    reads: &[Pair],
-) -> Option<Why>
+fn end_why<T: Told>(told: &T, site: SiteNo, txn: TxnId, ops: &[Op], reads: &[Pair]) -> Option<Why>
     ensures { result ≡ first (end_clauses (T.layout told.now) (T.past told.now) site txn ops.now reads.now) }
 {
     told.is_legal();
@@ -251,11 +245,7 @@ fn moved_why<T: Told>(told: &T, site: SiteNo, txn: TxnId) -> Option<Why>
 fn fail_why<T: Told>(told: &T, site: SiteNo, txn: TxnId) -> Option<Why>
     ensures { result ≡ first (fail_clauses (T.layout told.now) (T.past told.now) site txn) }
 {
-    fail_refusal(
-        stands_routed(told, txn),
-        told.run_site(txn),
-        site,
-    )
+    fail_refusal(stands_routed(told, txn), told.run_site(txn), site)
 }
 
 /// A Doubt is judged as its pending step would be.
@@ -350,8 +340,7 @@ pub fn refusal<T: Told>(told: &T, step: &Step) -> Option<Why>
 fn may_refresh<T: Told>(told: &T, site: SiteNo, origin: SiteNo) -> bool
     ensures { result ≡ is_none (refusal (T.layout told.now) (T.past told.now) (Refresh site origin)) }
 {
-    has_shape(told, &Step::Refresh { site, origin })
-        && refresh_why(told, site, origin).is_none()
+    has_shape(told, &Step::Refresh { site, origin }) && refresh_why(told, site, origin).is_none()
 }
 
 /// The least origin whose next entry the site may take over.

@@ -19,8 +19,7 @@ fn may_place<T: Told>(told: &T, session: u32, part: Part, site: SiteNo, epoch: u
     ensures { result ≡ (is_routed_for session site (wants_place part) (T.past told.now)
         && is_among (settled_epochs (T.layout told.now) (T.past told.now) session part site) epoch) }
 {
-    is_routed_for_place(told, session, site, part)
-        && told.stood_settled(session, part, site, epoch)
+    is_routed_for_place(told, session, site, part) && told.stood_settled(session, part, site, epoch)
 }
 
 /// Whether the session may be answered that the site is restarted.

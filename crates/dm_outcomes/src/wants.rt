@@ -33,12 +33,7 @@ fn is_routed_to<T: Told>(told: &T, session: u32, site: SiteNo) -> bool
     }
 }
 
-pub(crate) fn is_routed_for_place<T: Told>(
-    told: &T,
-    session: u32,
-    site: SiteNo,
-    part: Part,
-) -> bool
+pub(crate) fn is_routed_for_place<T: Told>(told: &T, session: u32, site: SiteNo, part: Part) -> bool
     ensures { result ≡ is_routed_for session site (wants_place part) (T.past told.now) }
 {
     match told.last_want(session) {

@@ -8,7 +8,7 @@ use Rattle.dm_event.specs.declared.step.Found.TheVariants.{Clean, Kept, Lost}
 use Rattle.dm_event.specs.declared.step.Pending.{Pending}
 use Rattle.dm_event.specs.declared.step.Pending.TheVariants as pending
 use Rattle.dm_event.specs.declared.step.Step.{Step}
-use Rattle.dm_event.specs.declared.step.Step.TheVariants.{Commit, Release, Grant, Restart}
+use Rattle.dm_event.specs.declared.step.Step.TheVariants.{Restart}
 use Rattle.dm_model.specs.Doubts.{step_of, pending_at}
 use Rattle.dm_model.specs.Placings.{placed_by, after_acts}
 use Rattle.dm_plain.specs.Adding.{kept_placing}

@@ -21,7 +21,7 @@ fn is_reply(step: &Step, session: u32) -> bool
     }
 }
 
-pub fn is_route(step: &Step, session: u32) -> bool
+pub(crate) fn is_route(step: &Step, session: u32) -> bool
     ensures { result ≡ is_route session step.now }
 {
     match step {
@@ -216,7 +216,7 @@ fn dropped_by(step: &Step, before: AttemptState) -> AttemptState
 
 /// The state of the session's current item.
 #[tactic(auto, using(dm_steps::proofs::Past::past_more))]
-pub fn state(steps: &[Step], session: u32) -> AttemptState
+fn state(steps: &[Step], session: u32) -> AttemptState
     ensures { result ≡ state session (reverse steps.now) }
 {
     let mut now = AttemptState::Unrouted;

@@ -13,14 +13,12 @@ mod since;
 mod values;
 
 pub use acts::{entry_at, entry_count, entry_of};
-pub use attempts::{
-    attempt, declared, is_route, last_routing, last_want, replies, routes, state,
-};
+pub use attempts::{attempt, declared, last_routing, last_want, replies, routes};
 pub use doubts::{is_down, pending_at};
 pub use floors::{entry_count_with_kept, floor, floor_with_kept, unclosed_with_kept};
 pub use placings::placing;
-pub use progress::{full, is_restart, reached, site_vector};
-pub use running::{begin_vector, holder, run_site, runner, runs};
+pub use progress::{full, reached, site_vector};
+pub use running::{begin_vector, holder, run_site, runner};
 pub use sessions::session_vector;
 pub use since::{last_settled, restarted_since, stood_settled};
 pub use values::value;

@@ -26,7 +26,7 @@ fn runs_after(step: &Step, site: SiteNo, attempt: TxnId) -> Option<bool>
 
 /// Whether the attempt runs at the site.
 #[tactic(auto, using(dm_steps::proofs::Past::past_more))]
-pub fn runs(steps: &[Step], site: SiteNo, txn: TxnId) -> bool
+fn runs(steps: &[Step], site: SiteNo, txn: TxnId) -> bool
     ensures { result ≡ runs site txn (reverse steps.now) }
 {
     let mut last = None;

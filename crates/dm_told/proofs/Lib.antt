@@ -1,1 +1,1 @@
-pub mod WhoIsCurrent
+pub mod Routings

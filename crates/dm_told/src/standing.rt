@@ -40,7 +40,7 @@ pub fn routed<T: Told>(told: &T, txn: TxnId) -> Option<Routing>
 }
 
 /// Whether the attempt's session stands routed by it.
-#[tactic(auto, using(crate::proofs::WhoIsCurrent::some_routing))]
+#[tactic(auto, using(crate::proofs::Routings::some_routing))]
 pub fn stands_routed<T: Told>(told: &T, txn: TxnId) -> bool
     ensures { result ≡ is_some (routed txn (T.past told.now)) }
 {

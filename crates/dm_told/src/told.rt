@@ -1,6 +1,6 @@
 //! What is told of a legal history.
 
-ghost use Rattle.std.specs.Prelude.{◌≡◌, ◌<◌, ◌^◌, true, length, List, reverse, slice_get, option_copied, option_map};
+ghost use Rattle.std.specs.Prelude.{◌≡◌, ◌<◌, ◌^◌, true, length, List, reverse, option_copied, option_map};
 ghost use Rattle.dm_event.specs.Layout.{Layout, is_site};
 ghost use Rattle.dm_event.specs.Vectors.{at};
 ghost use Rattle.dm_event.specs.declared.step.Step.{Step};
@@ -19,6 +19,7 @@ ghost use Rattle.dm_model.specs.Runs.{begin_vector, run_site};
 ghost use Rattle.dm_model.specs.Sessions.{session_vector};
 ghost use Rattle.dm_model.specs.Tests.{is_among};
 ghost use Rattle.dm_model.specs.Values.{value};
+ghost use Rattle.dm_steps.specs.Next.{last_settled};
 ghost use Rattle.dm_told.specs.Asking.{is_current, is_running, was_routed_for};
 ghost use Rattle.dm_told.specs.Routings.{without_want};
 
@@ -28,15 +29,16 @@ use dm_event::{
 };
 use dm_placement::Window;
 
-/// A legal history that answers what the clauses of its next step ask. Where a question has a
-/// `requires`, one who keeps the answers as the steps come need not look back for any other.
+/// A legal history that answers what the clauses of its next step ask. A question that one could not
+/// answer who knows of each session, partition and site only how it stands has a `requires`, so that it
+/// is asked only where one can.
 pub trait Told {
     ghost layout: { Self → Layout };
 
     /// The steps so far, the latest first.
     ghost past: { Self → List Step };
 
-    /// Each step was allowed by those before it, and memory has room for few steps.
+    /// Each step was allowed by those before it, and there are fewer than memory could hold.
     fn is_legal(&self)
         ensures legal { LegalPast (layout self.now) (past self.now) }
         ensures few { length (past self.now) < 2 ^ 63 };
@@ -79,7 +81,7 @@ pub trait Told {
     fn last_settled(&self, session: u32, part: Part, site: SiteNo) -> Option<u64>
         requires part { part < length (layout self.now).masters }
         requires wanted { was_routed_for session site (wants_place part) (past self.now) ≡ true }
-        ensures { result ≡ slice_get (settled_epochs (layout self.now) (past self.now) session part site) 0 };
+        ensures { result ≡ last_settled (layout self.now) (past self.now) session part site };
 
     /// Whether the partition stood settled at the site under the epoch, at the session's last Route, which
     /// is for that, or later.
