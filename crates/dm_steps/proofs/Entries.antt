@@ -43,7 +43,8 @@ pub entries_more : (s : Step) (past : List Step) (o : Option Entry) → option_t
     → entries (s ∷ past) ≡ option_to_list o ++ entries past
 entries_more s past o e = filter_map-append entry_of (acts_of s past) (acts past) ∙ ap (λ (l : List Entry). l ++ entries past) (sym e)
 
-pub count_one : (j : ℕ) (o : Option Entry) (es : List Entry) → count_of (λ e. e.origin == j) (option_to_list o ++ es) ≡ count_of (λ e. e.origin == j) es + of_origin
+pub count_one : (j : ℕ) (o : Option Entry) (es : List Entry) → count_of (λ e. e.origin == j) (option_to_list o ++ es)
+    ≡ count_of (λ e. e.origin == j) es + of_origin
     j o
 count_one j None es = omega arith
 count_one j (Some e) es = by_test (e.origin == j)
@@ -52,7 +53,8 @@ count_one j (Some e) es = by_test (e.origin == j)
     by_test true = omega arith
     by_test false = omega arith
 
-pub find_one : (j n : ℕ) (o : Option Entry) (es : List Entry) → find (λ e. (e.origin == j) && (e.seq == n)) (option_to_list o ++ es) ≡ option_or (with_number j n o)
+pub find_one : (j n : ℕ) (o : Option Entry) (es : List Entry) → find (λ e. (e.origin == j) && (e.seq == n)) (option_to_list o ++ es)
+    ≡ option_or (with_number j n o)
     (find (λ e. (e.origin == j) && (e.seq == n)) es)
 find_one j n None es = refl
 find_one j n (Some e) es = by_test ((e.origin == j) && (e.seq == n))

@@ -1,9 +1,9 @@
 -- What a further legal step makes of a floor.
-use Rattle.std.proofs.Common.{ℕ, ◌≤◌, ◌≡◌, ◌==◌, Bool, true, false, if◌then◌else◌, List, ◌∷◌, Option, Some, None, length, ◌∙◌, arith}
-use Rattle.std.proofs.lemmas.Bool.{eqb-true, leb-true, and_parts}
+use Rattle.std.proofs.Common.{ℕ, ◌≡◌, ◌==◌, Bool, true, false, if◌then◌else◌, List, ◌∷◌, Option, Some, None, length, arith}
+use Rattle.std.proofs.lemmas.Bool.{eqb-true, and_parts}
 use Rattle.std.specs.Prelude.{option_and_then, IfSome}
 use Rattle.dm_event.specs.Entries.{commit_vector}
-use Rattle.dm_event.specs.Layout.{Layout}
+use Rattle.dm_event.specs.Layout.{Layout, is_site}
 use Rattle.dm_event.specs.declared.step.Entry.{Entry}
 use Rattle.dm_event.specs.declared.step.Found.TheVariants.{Kept}
 use Rattle.dm_event.specs.declared.step.Pending.{Pending}
@@ -11,12 +11,12 @@ use Rattle.dm_event.specs.declared.step.Pending.TheVariants as pending
 use Rattle.dm_event.specs.declared.step.Step.{Step}
 use Rattle.dm_event.specs.declared.step.Step.TheVariants.{Commit, Grant, Doubt, Restart}
 use Rattle.dm_model.proofs.Judged.{shape_of}
-use Rattle.dm_model.proofs.LegalSteps.{legal_grant}
+use Rattle.dm_model.proofs.LegalSteps.{InRange, in_range, legal_grant}
 use Rattle.dm_model.specs.Allowed.{Allowed}
 use Rattle.dm_model.specs.Doubts.{pending_at}
 use Rattle.dm_model.specs.Floors.{floor_vector, floor}
 use Rattle.dm_model.specs.Legal.{LegalPast}
-use Rattle.dm_model.specs.Shape.{is_entry, is_shaped}
+use Rattle.dm_model.specs.Shape.{is_txn, is_vector, is_entry, is_shaped}
 use Rattle.dm_steps.proofs.Legality.{Made, long_commit, pending_shaped}
 use Rattle.dm_steps.proofs.Sites.{floor_next}
 use Rattle.dm_steps.specs.Next.{next_floor}
@@ -31,11 +31,12 @@ module _ (layout : Layout) where
 
   pub entry_made : (e : Entry) → is_entry layout e ≡ true → Made layout e
   entry_made e h =
-      let p = and_parts _ _ (and_parts _ _ h).1 in
-      let site = and_parts _ _ p.0 in
-      let long : length e.begin ≡ layout.sites = eqb-true (length e.begin) layout.sites (and_parts _ _ p.1).0 in
-      let top : e.origin ≤ layout.sites = leb-true e.origin layout.sites site.1 in
-      record { one = leb-true 1 e.origin site.0; within = omega (arith, top, long); long = long }
+      let rest = and_parts (is_site layout e.origin) _ (and_parts (is_txn layout e.txn) _ h).1 in
+      let site = in_range layout e.origin rest.0 in
+      made site (eqb-true (length e.begin) layout.sites (and_parts (is_vector layout e.begin) _ rest.1).0)
+    where
+      made : InRange layout e.origin → length e.begin ≡ layout.sites → Made layout e
+      made r long = let top = r.top in record { one = r.one; within = omega (arith, top, long); long = long }
 
   kept_fits : (site : ℕ) (vector : List ℕ) (o : Option Pending) → IfSome o (λ p. is_shaped layout (Doubt site p) ≡ true)
       → IfSome (act_of (Restart site vector Kept) o) (λ act. Fits act)

@@ -1,5 +1,6 @@
 -- An attempt that may begin has not begun before.
-use Rattle.std.proofs.Common.{ℕ, suc, ◌<◌, ◌≤◌, ◌≡◌, ◌≢◌, ◌==◌, Bool, true, false, if◌then◌else◌, List, [], ◌∷◌, Some, None, refl, sym, ap, ◌∙◌, subst, arith, inl, inr, ◌⊎◌, unwrap_or}
+use Rattle.std.proofs.Common.{ℕ, suc, ◌<◌, ◌≤◌, ◌≡◌, ◌≢◌, ◌==◌, Bool, true, false, if◌then◌else◌, List, [], ◌∷◌, Some, None, refl, sym, ap, ◌∙◌, subst, arith}
+use Rattle.std.proofs.Common.{inl, inr, ◌⊎◌, unwrap_or}
 use Rattle.std.proofs.lemmas.Bool.{eqb-true, eqb-false, false≢true, or_cases}
 use Rattle.std.specs.List.{list_any, cons_option}
 use Rattle.std.specs.Prelude.{filter_map}
@@ -56,7 +57,8 @@ kept_or true new old n h = absurd (false≢true (sym n ∙ h))
 kept_or false new old n h = h
 
 -- what isn't a Route routes nothing
-stays_routed : (c : ℕ) (s : Step) (st : AttemptState) → is_route c s ≡ false → is_routed (unwrap_or (state_by c s) (dropped_by s st)) ≡ true → is_routed st ≡ true
+stays_routed : (c : ℕ) (s : Step) (st : AttemptState) → is_route c s ≡ false → is_routed (unwrap_or (state_by c s) (dropped_by s st)) ≡ true → is_routed st
+    ≡ true
 stays_routed c (Route txn want min site choice) st n h = by (txn.session == c) n h
   where
     by : (b : Bool) → b ≡ false → is_routed (unwrap_or (if b then Some (stands.Routed site choice) else None) st) ≡ true → is_routed st ≡ true
@@ -76,7 +78,8 @@ stays_routed c other st n h = h
 
 module _ (past : List Step) (c : ℕ) (turn : Turn past c) where
   -- a step by which the session's counts and its begun attempts stay
-  stays : (s : Step) → is_route c s ≡ false → replies c (s ∷ past) ≡ replies c past → routes c (s ∷ past) ≡ routes c past → last_routing c (s ∷ past) ≡ last_routing c past
+  stays : (s : Step) → is_route c s ≡ false → replies c (s ∷ past) ≡ replies c past → routes c (s ∷ past) ≡ routes c past → last_routing c (s ∷ past)
+      ≡ last_routing c past
       → ((i : ℕ) → filter_map (begun_at i) (s ∷ past) ≡ filter_map (begun_at i) past) → Turn (s ∷ past) c
   stays s n r a l b = record {
     current = λ h x e. (let p = turn.current (stays_routed c s (state c past) n h) x (sym l ∙ e) in (p.0 ∙ ap suc (sym r), p.1 ∙ sym a));
@@ -105,7 +108,8 @@ module _ (past : List Step) (c : ℕ) (turn : Turn past c) where
           }
       by false e = stays (Reply session number said) refl (rw e refl) (routes_next c (Reply session number said) past ∙ rw e refl) refl (λ i. refl)
 
-  route_next : (txn : TxnId) (want : Want) (min : List ℕ) (site : ℕ) (choice : Choice) → (txn.session ≡ c → (txn.number ≡ suc (replies c past)) × (txn.attempt ≡ suc (routes c past)))
+  route_next : (txn : TxnId) (want : Want) (min : List ℕ) (site : ℕ) (choice : Choice)
+      → (txn.session ≡ c → (txn.number ≡ suc (replies c past)) × (txn.attempt ≡ suc (routes c past)))
       → Turn (Route txn want min site choice ∷ past) c
   route_next txn want min site choice f = by (txn.session == c) refl
     where
@@ -119,13 +123,18 @@ module _ (past : List Step) (c : ℕ) (turn : Turn past c) where
           let mine : Routing = record { txn = txn; want = want; min = min; site = site; choice = choice } in
           let l : last_routing c (Route txn want min site choice ∷ past) ≡ Some mine = rw e refl in
           record {
-            current = λ h x g. (let same : mine ≡ x = cc (l, g) in (sym (ap (λ (y : Routing). y.txn.number) same) ∙ due.0, sym (ap (λ (y : Routing). y.txn.attempt) same) ∙ due.1 ∙ sym a));
+            current = λ h x g. (let same : mine ≡ x = cc (l, g) in (
+              sym (ap (λ (y : Routing). y.txn.number) same)
+                  ∙ due.0,
+              sym (ap (λ (y : Routing). y.txn.attempt) same) ∙ due.1 ∙ sym a,
+            ));
             begun = λ i t g m. elim (turn.begun i t g m) [ inl p ↦ inl p | inr p ↦ inr (p.0, omega (arith, p.1, a)) ];
             routed = λ h i t g m. elim (turn.begun i t g m) [ inl p ↦ inl p | inr p ↦ inr (p.0, omega (arith, p.1, a)) ];
           }
       by false e = stays (Route txn want min site choice) e refl (rw e refl) (rw e refl) (λ i. refl)
 
-any_begun : (i : ℕ) (t : TxnId) (site : ℕ) (txn : TxnId) (ts : List TxnId) → list_any (same_txn t) (cons_option (if site == i then Some txn else None) ts) ≡ true
+any_begun : (i : ℕ) (t : TxnId) (site : ℕ) (txn : TxnId) (ts : List TxnId) → list_any (same_txn t) (cons_option (if site == i then Some txn else None) ts)
+    ≡ true
     → (t ≡ txn) ⊎ (list_any (same_txn t) ts ≡ true)
 any_begun i t site txn ts h = by (site == i) h
   where
@@ -138,18 +147,26 @@ begin_next : (past : List Step) (c site : ℕ) (txn : TxnId) (begin : List ℕ) 
 begin_next past c site txn begin turn stand = by (txn.session == c) refl
   where
     other : txn.session ≢ c → (i : ℕ) (t : TxnId) → t.session ≡ c → has_begun i t (Begin site txn begin ∷ past) ≡ true → has_begun i t past ≡ true
-    other n i t e m = elim (any_begun i t site txn (filter_map (begun_at i) past) m) [ inl p ↦ absurd (n (sym (ap (λ (x : TxnId). x.session) p) ∙ e)) | inr p ↦ p ]
+    other n i t e m = elim (any_begun i t site txn (filter_map (begun_at i) past) m) [
+      | inl p ↦ absurd
+          (n (sym (ap (λ (x : TxnId). x.session) p) ∙ e))
+      | inr p ↦ p
+    ]
 
     by : (b : Bool) → (txn.session == c) ≡ b → Turn (Begin site txn begin ∷ past) c
     by true e =
         let own = eqb-true txn.session c e in
         let n : is_routed (state c (Begin site txn begin ∷ past)) ≡ false = rw e refl in
         let cur = turn.current (subst (λ (x : ℕ). is_routed (state x past) ≡ true) own stand.state) stand.route
-            (subst (λ (x : ℕ). last_routing x past ≡ Some stand.route) own stand.last) in
+        (subst (λ (x : ℕ). last_routing x past ≡ Some stand.route) own stand.last) in
         record {
           current = λ h x g. absurd (false≢true (sym n ∙ h));
           begun = λ i t g m. elim (any_begun i t site txn (filter_map (begun_at i) past) m) [
-            | inl p ↦ (let q = p ∙ stand.same in inr (ap (λ (y : TxnId). y.number) q ∙ cur.0, (let z : t.attempt ≡ routes c past = ap (λ (y : TxnId). y.attempt) q ∙ cur.1 in omega (arith, z))))
+            | inl p ↦ (let q = p ∙ stand.same in inr (
+              ap (λ (y : TxnId). y.number) q
+                  ∙ cur.0,
+              (let z : t.attempt ≡ routes c past = ap (λ (y : TxnId). y.attempt) q ∙ cur.1 in omega (arith, z)),
+            ))
             | inr p ↦ turn.begun i t g p
           ];
           routed = λ h i t g m. absurd (false≢true (sym n ∙ h));
@@ -179,7 +196,8 @@ turns layout [] h c = record { current = λ r x e. absurd (false≢true r); begu
 turns layout (s ∷ past) h c = turn_step layout past s h.1 c (turns layout past h.0 c)
 
 -- who may begin has not begun anywhere
-pub fresh : (layout : Layout) (past : List Step) → LegalPast layout past → (site : ℕ) (txn : TxnId) (begin : List ℕ) → Allowed layout past (Begin site txn begin)
+pub fresh : (layout : Layout) (past : List Step) → LegalPast layout past → (site : ℕ) (txn : TxnId) (begin : List ℕ)
+    → Allowed layout past (Begin site txn begin)
     → (i : ℕ) → has_begun i txn past ≡ false
 fresh layout past h site txn begin allowed i = by (has_begun i txn past) refl
   where

@@ -6,7 +6,7 @@ use Rattle.std.specs.Prelude.{◌||◌, filter_map, slice_get}
 use Rattle.dm_event.specs.Layout.{Layout}
 use Rattle.dm_event.specs.declared.step.Step.{Step}
 use Rattle.dm_model.specs.Attempts.{is_route}
-use Rattle.dm_model.specs.Outcomes.{placings_since, settled_epoch, settled_epochs, restarted_since}
+use Rattle.dm_model.specs.Outcomes.{placings_since, settled_epoch, restarted_since}
 use Rattle.dm_model.specs.Placings.{placing}
 use Rattle.dm_model.specs.Progress.{is_restart}
 use Rattle.dm_model.specs.Words.{since}

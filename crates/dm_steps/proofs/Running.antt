@@ -1,5 +1,6 @@
 -- What a further step makes of the list of the attempts that run at a site.
-use Rattle.std.proofs.Common.{ℕ, ◌≡◌, ◌==◌, Bool, true, false, cond, if◌then◌else◌, List, [], ◌∷◌, ◌++◌, Option, Some, None, refl, sym, ap, ◌∙◌, subst, unwrap_or, inl, inr}
+use Rattle.std.proofs.Common.{ℕ, ◌≡◌, ◌==◌, Bool, true, false, cond, if◌then◌else◌, List, [], ◌∷◌, ◌++◌, Option, Some, None, refl, sym, ap, ◌∙◌, subst}
+use Rattle.std.proofs.Common.{unwrap_or, inl, inr}
 use Rattle.std.proofs.lemmas.Bool.{cases_Bool, false≢true}
 use Rattle.std.proofs.lemmas.List.{reverse-append, reverse-reverse}
 use Rattle.std.proofs.lemmas.List.Elements.{filter-append}
@@ -38,7 +39,8 @@ module _ {X : Type 0} (p q : X → Bool) where
   filter_twice (x ∷ xs) = by (q x) (p x) refl (filter_twice xs)
     where
       by : (b c : Bool) → p x ≡ c → filter p (filter q xs) ≡ filter (λ y. if p y then q y else false) xs
-          → filter p (cond b (x ∷ filter q xs) (filter q xs)) ≡ cond (if c then b else false) (x ∷ filter (λ y. if p y then q y else false) xs) (filter (λ y. if p y then q y else false) xs)
+          → filter p (cond b (x ∷ filter q xs) (filter q xs)) ≡ cond (if c then b else false) (x ∷ filter (λ y. if p y then q y else false) xs)
+          (filter (λ y. if p y then q y else false) xs)
       by true true e r = rw e (ap (λ (l : List X). x ∷ l) r)
       by true false e r = rw e r
       by false true e r = r
@@ -53,7 +55,6 @@ none_pass [] = refl
 none_pass (x ∷ xs) = none_pass xs
 
 module _ (i : ℕ) (past : List Step) where
-
   runs_next : (s : Step) (t : TxnId) → runs i t (s ∷ past) ≡ unwrap_or (runs_after i t s) (runs i t past)
   runs_next s t = by (runs_after i t s)
     where
@@ -76,7 +77,8 @@ module _ (i : ℕ) (past : List Step) where
   emptied : (site : ℕ) (s : Step) → ((t : TxnId) → runs_after i t s ≡ (if site == i then Some false else None)) → (xs : List TxnId)
       → filter (λ t. runs i t (s ∷ past)) xs ≡ (if site == i then [] else filter (λ t. runs i t past) xs)
   emptied site s f xs =
-      filter_same _ (λ t. unwrap_or (if site == i then Some false else None) (runs i t past)) xs (each_of _ (λ t. runs_next s t ∙ ap (λ (o : Option Bool). unwrap_or o (runs i t past)) (f t)) xs)
+      filter_same _ (λ t. unwrap_or (if site == i then Some false else None) (runs i t past)) xs
+      (each_of _ (λ t. runs_next s t ∙ ap (λ (o : Option Bool). unwrap_or o (runs i t past)) (f t)) xs)
       ∙ by (site == i)
     where
       by : (b : Bool) → filter (λ t. unwrap_or (if b then Some false else None) (runs i t past)) xs ≡ (if b then [] else filter (λ t. runs i t past) xs)
@@ -101,7 +103,8 @@ module _ (i : ℕ) (past : List Step) where
         or_false false b h = (refl, h)
 
     turned : (xs : List TxnId) → list_any (same_txn txn) xs ≡ false → Each (λ t. runs i t (Begin site txn begin ∷ past) ≡ runs i t past) (reverse xs)
-    turned xs e = each_reverse _ (reverse xs) (subst (λ (l : List TxnId). Each (λ t. runs i t (Begin site txn begin ∷ past) ≡ runs i t past) l) (sym (reverse-reverse xs)) (each_other xs e))
+    turned xs e = each_reverse _ (reverse xs) (subst (λ (l : List TxnId). Each (λ t. runs i t (Begin site txn begin ∷ past) ≡ runs i t past) l)
+        (sym (reverse-reverse xs)) (each_other xs e))
 
     others : filter (λ t. runs i t (Begin site txn begin ∷ past)) (reverse (filter_map (begun_at i) past)) ≡ running i past
     others = filter_same _ _ (reverse (filter_map (begun_at i) past)) (turned (filter_map (begun_at i) past) new)
@@ -112,7 +115,8 @@ module _ (i : ℕ) (past : List Step) where
         own : site == i ≡ true → filter (λ t. runs i t (Begin site txn begin ∷ past)) (txn ∷ []) ≡ txn ∷ []
         own e = (let r : runs i txn (Begin site txn begin ∷ past) ≡ true = runs_next (Begin site txn begin) txn ∙ rw (txn_own txn) e in rw r refl)
 
-        by : (b : Bool) → (site == i) ≡ b → filter (λ t. runs i t (Begin site txn begin ∷ past)) (reverse (cons_option (if b then Some txn else None) (filter_map (begun_at i) past)))
+        by : (b : Bool) → (site == i) ≡ b → filter (λ t. runs i t (Begin site txn begin ∷ past))
+            (reverse (cons_option (if b then Some txn else None) (filter_map (begun_at i) past)))
             ≡ (if b then running i past ++ txn ∷ [] else running i past)
         by true e =
             ap (λ (l : List TxnId). filter (λ t. runs i t (Begin site txn begin ∷ past)) l) (reverse-append (txn ∷ []) (filter_map (begun_at i) past))
@@ -121,11 +125,13 @@ module _ (i : ℕ) (past : List Step) where
             ∙ ap (λ (l : List TxnId). running i past ++ l) (own e)
         by false e = others
 
-pub running_next : (layout : Layout) (past : List Step) → LegalPast layout past → (s : Step) → Allowed layout past s → (i : ℕ) → running i (s ∷ past) ≡ next_running i s (running i past)
+pub running_next : (layout : Layout) (past : List Step) → LegalPast layout past → (s : Step) → Allowed layout past s → (i : ℕ) → running i (s ∷ past)
+    ≡ next_running i s (running i past)
 running_next layout past h (Begin site txn begin) a i = started i past site txn begin (fresh layout past h site txn begin a i)
 running_next layout past h (Commit entry) a i = ended i past entry.txn (Commit entry) (λ t. refl) (reverse (filter_map (begun_at i) past))
 running_next layout past h (End site txn ops reads) a i = ended i past txn (End site txn ops reads) (λ t. refl) (reverse (filter_map (begun_at i) past))
 running_next layout past h (Fail site txn cause) a i = ended i past txn (Fail site txn cause) (λ t. refl) (reverse (filter_map (begun_at i) past))
 running_next layout past h (Doubt site p) a i = emptied i past site (Doubt site p) (λ t. refl) (reverse (filter_map (begun_at i) past))
-running_next layout past h (Restart site vector found) a i = emptied i past site (Restart site vector found) (λ t. refl) (reverse (filter_map (begun_at i) past))
+running_next layout past h (Restart site vector found) a i = emptied i past site (Restart site vector found) (λ t. refl)
+    (reverse (filter_map (begun_at i) past))
 running_next layout past h other a i = refl

@@ -32,7 +32,8 @@ module _ (c : ℕ) (s : Step) (past : List Step) where
   pub routes_next : routes c (s ∷ past) ≡ next_routes c s (routes c past)
   routes_next = by_test (is_reply c s)
     where
-      by_test : (b : Bool) → count_of (is_route c) (if b then [] else s ∷ since (is_reply c) past) ≡ (if b then 0 else (if is_route c s then suc (routes c past) else routes c past))
+      by_test : (b : Bool) → count_of (is_route c) (if b then [] else s ∷ since (is_reply c) past)
+          ≡ (if b then 0 else (if is_route c s then suc (routes c past) else routes c past))
       by_test true = refl
       by_test false = refl
 
@@ -49,7 +50,8 @@ module _ (c : ℕ) (s : Step) (past : List Step) where
   txn_next : item_txn (s ∷ past) ≡ next_txn c s (item_txn past)
   txn_next = by_test (is_reply c s)
     where
-      by_test : (b : Bool) → option_map (λ r. r.txn) (last_routing c (if b then [] else s ∷ since (is_reply c) past)) ≡ (if b then None else option_or (routed_by c s) (item_txn past))
+      by_test : (b : Bool) → option_map (λ r. r.txn) (last_routing c (if b then [] else s ∷ since (is_reply c) past))
+          ≡ (if b then None else option_or (routed_by c s) (item_txn past))
       by_test true = refl
       by_test false = map_or (routing_of (λ txn. txn.session == c) s) (last_routing c (since (is_reply c) past))
 
@@ -59,16 +61,19 @@ module _ (c : ℕ) (s : Step) (past : List Step) where
   pub begin_next : last_begin c (s ∷ past) ≡ next_begin c s (last_begin c past)
   begin_next = refl
 
-long_entry : (layout : Layout) (past : List Step) → LegalPast layout past → (o : Option Entry) (site seq : ℕ) → entry_at site seq past ≡ o → IfSome (option_map commit_vector o) (λ v. length v ≡ layout.sites)
+long_entry : (layout : Layout) (past : List Step) → LegalPast layout past → (o : Option Entry) (site seq : ℕ) → entry_at site seq past ≡ o
+    → IfSome (option_map commit_vector o) (λ v. length v ≡ layout.sites)
 long_entry layout past h None site seq e = tt
 long_entry layout past h (Some x) site seq e = long_commit layout x (made_entry layout past h site seq x e)
 
-long_read : (layout : Layout) (past : List Step) → LegalPast layout past → (o : Option (List ℕ)) (c : ℕ) → last_begin c past ≡ o → IfSome o (λ v. length v ≡ layout.sites)
+long_read : (layout : Layout) (past : List Step) → LegalPast layout past → (o : Option (List ℕ)) (c : ℕ) → last_begin c past ≡ o
+    → IfSome o (λ v. length v ≡ layout.sites)
 long_read layout past h None c e = tt
 long_read layout past h (Some v) c e = long_begin layout _ past h v e
 
 -- what is seen has a component for each site
-pub long_seen : (layout : Layout) (past : List Step) → LegalPast layout past → (c : ℕ) (o : Said) → IfSome (seen_by o (named_by o past) (last_begin c past)) (λ v. length v ≡ layout.sites)
+pub long_seen : (layout : Layout) (past : List Step) → LegalPast layout past → (c : ℕ) (o : Said) → IfSome (seen_by o (named_by o past) (last_begin c past))
+    (λ v. length v ≡ layout.sites)
 long_seen layout past h c (said.Committed site seq) = long_entry layout past h (entry_at site seq past) site seq refl
 long_seen layout past h c (said.Read site) = long_read layout past h (last_begin c past) c refl
 long_seen layout past h c (said.InDoubt site) = tt
@@ -77,9 +82,11 @@ long_seen layout past h c (said.Restarted site) = tt
 long_seen layout past h c (said.Refused why) = tt
 
 own_answer : (c number : ℕ) (o : Said) (past : List Step) (b : Bool) (vs : List (List ℕ)) (count : ℕ)
-    → join_one (join_all count vs) (seen_by o (named_by o past) (last_begin c past)) ≡ join_all count (cons_option (seen_by o (named_by o past) (last_begin c past)) vs)
+    → join_one (join_all count vs) (seen_by o (named_by o past) (last_begin c past))
+    ≡ join_all count (cons_option (seen_by o (named_by o past) (last_begin c past)) vs)
     → (session : ℕ) → (session == c) ≡ b
-    → join_all count (cons_option (answered_by c (Reply session number o) past) vs) ≡ (if b then join_one (join_all count vs) (seen_by o (named_by o past) (last_begin c past)) else join_all count vs)
+    → join_all count (cons_option (answered_by c (Reply session number o) past) vs)
+    ≡ (if b then join_one (join_all count vs) (seen_by o (named_by o past) (last_begin c past)) else join_all count vs)
 own_answer c number (said.Committed site seq) past true vs count h session e = rw e (sym h)
 own_answer c number (said.Committed site seq) past false vs count h session e = rw e refl
 own_answer c number (said.Read site) past true vs count h session e = rw e (sym h)

@@ -1,5 +1,6 @@
 -- What a further step makes of what is kept of a partition or a site.
-use Rattle.std.proofs.Common.{ℕ, suc, ◌+◌, ◌≡◌, ◌==◌, ◌&&◌, Bool, true, false, if◌then◌else◌, List, [], ◌∷◌, ◌++◌, Option, Some, None, length, refl, sym, ap, ◌∙◌, unwrap_or, arith}
+use Rattle.std.proofs.Common.{ℕ, suc, ◌+◌, ◌≡◌, ◌==◌, ◌&&◌, Bool, true, false, if◌then◌else◌, List, [], ◌∷◌, ◌++◌, Option, Some, None, length, refl, sym, ap}
+use Rattle.std.proofs.Common.{◌∙◌, unwrap_or, arith}
 use Rattle.std.specs.List.{cons_option}
 use Rattle.std.specs.Option.{option_or}
 use Rattle.std.specs.Prelude.{find, option_and_then, option_to_list, filter_map, IfSome}
@@ -49,7 +50,8 @@ module _ {X : Type 0} (f : Step → Option X) where
   one_act (Some s) more = refl
 
   -- what is read of the acts, after one step more
-  pub acts_next : (s : Step) (past : List Step) → filter_map f (acts (s ∷ past)) ≡ cons_option (option_and_then f (act_of s (kept_of s past))) (filter_map f (acts past))
+  pub acts_next : (s : Step) (past : List Step) → filter_map f (acts (s ∷ past)) ≡ cons_option (option_and_then f (act_of s (kept_of s past)))
+      (filter_map f (acts past))
   acts_next s past = ap (λ (l : List Step). filter_map f (l ++ acts past)) (act_is s past) ∙ one_act (act_of s (kept_of s past)) (acts past)
 
 module _ (s : Step) (past : List Step) where
@@ -67,11 +69,13 @@ module _ (s : Step) (past : List Step) where
   count_next j = ap (λ (es : List Entry). count_of (λ e. e.origin == j) es) entries_list ∙ count_one j (entry_by s (kept_of s past)) (entries past)
 
   pub entry_next : (j n : ℕ) → entry_at j n (s ∷ past) ≡ option_or (with_number j n (entry_by s (kept_of s past))) (entry_at j n past)
-  entry_next j n = ap (λ (es : List Entry). find (λ e. (e.origin == j) && (e.seq == n)) es) entries_list ∙ find_one j n (entry_by s (kept_of s past)) (entries past)
+  entry_next j n = ap (λ (es : List Entry). find (λ e. (e.origin == j) && (e.seq == n)) es) entries_list ∙ find_one j n (entry_by s (kept_of s past))
+      (entries past)
 
 -- ---- a partition
 
-pub placing_next : (layout : Layout) (s : Step) (past : List Step) (p : ℕ) → placing layout (s ∷ past) p ≡ next_placing p s (kept_of s past) (placing layout past p)
+pub placing_next : (layout : Layout) (s : Step) (past : List Step) (p : ℕ) → placing layout (s ∷ past) p
+    ≡ next_placing p s (kept_of s past) (placing layout past p)
 placing_next layout (Route txn want min site choice) past p = refl
 placing_next layout (Reply session number said) past p = refl
 placing_next layout (Ask part epoch to txn) past p = refl
@@ -85,7 +89,8 @@ placing_next layout (Refresh site origin) past p = refl
 placing_next layout (Release site part epoch to vector) past p = refl
 placing_next layout (Grant site part epoch vector) past p = refl
 placing_next layout (Doubt site q) past p = refl
-placing_next layout (Restart site vector found) past p = ap (λ (l : List Step). after_acts p l (placing layout past p)) (act_is (Restart site vector found) past)
+placing_next layout (Restart site vector found) past p = ap (λ (l : List Step). after_acts p l (placing layout past p))
+    (act_is (Restart site vector found) past)
 
 -- ---- a site
 
@@ -102,7 +107,8 @@ module _ (i : ℕ) (s : Step) (past : List Step) where
 
 module _ (i j : ℕ) (past : List Step) where
   set_or : (b : Bool) (site : ℕ) (vector : List ℕ) (found : Found) (last : Option (List ℕ)) (before : List Step)
-      → at (unwrap_or (option_or (if b then Some vector else None) last) []) j + count_of (is_refresh i j) (if b then [] else Restart site vector found ∷ before)
+      → at (unwrap_or (option_or (if b then Some vector else None) last) []) j + count_of (is_refresh i j)
+      (if b then [] else Restart site vector found ∷ before)
       ≡ (if b then at vector j else at (unwrap_or last []) j + count_of (is_refresh i j) before)
   set_or true site vector found last before = omega arith
   set_or false site vector found last before = refl
@@ -131,11 +137,13 @@ module _ (i j : ℕ) (past : List Step) where
   reached_next s = by_test (i == j)
     where
       by_test : (b : Bool) → (if b then entry_count i (s ∷ past) else refreshed i j (s ∷ past))
-          ≡ (if b then next_count i s (kept_of s past) (if b then entry_count i past else refreshed i j past) else next_refreshed i j s (if b then entry_count i past else refreshed i j past))
+          ≡ (if b then next_count i s (kept_of s past) (if b then entry_count i past else refreshed i j past) else next_refreshed i j s
+          (if b then entry_count i past else refreshed i j past))
       by_test true = count_next s past i
       by_test false = refreshed_next s
 
-pub vector_next : (count i : ℕ) (s : Step) (past : List Step) → site_vector count (s ∷ past) i ≡ next_vector count i s (kept_of s past) (site_vector count past i)
+pub vector_next : (count i : ℕ) (s : Step) (past : List Step) → site_vector count (s ∷ past) i ≡ next_vector count i s (kept_of s past)
+    (site_vector count past i)
 vector_next count i s past =
     vector_is count (site_vector count (s ∷ past) i) (λ j. next_reached i j s (kept_of s past) (at (site_vector count past i) j)) (long_by count _)
     (λ k l m. at_by count (λ j. reached i j (s ∷ past)) k l m ∙ reached_next i k past s

@@ -1,6 +1,7 @@
 -- Under which epochs a partition stood settled at a site since a Route, by the terms of the partition: each with the place of the
 -- Ask that ended it.
-use Rattle.std.proofs.Common.{ℕ, suc, ◌<◌, ◌≡◌, ◌==◌, ◌&&◌, Bool, true, false, if◌then◌else◌, List, [], ◌∷◌, Option, Some, None, length, refl, sym, ap, ◌∙◌, subst, arith, nat_lt}
+use Rattle.std.proofs.Common.{ℕ, suc, ◌<◌, ◌≡◌, ◌==◌, ◌&&◌, Bool, true, false, if◌then◌else◌, List, [], ◌∷◌, Option, Some, None, length, refl, sym, ap, ◌∙◌}
+use Rattle.std.proofs.Common.{subst, arith, nat_lt}
 use Rattle.std.proofs.lemmas.Bool.{lt-ltb, le-ltb}
 use Rattle.std.specs.List.{AllByRecursion as Each, list_any, cons_option}
 use Rattle.std.specs.Prelude.{◌||◌, filter_map, slice_index}
@@ -54,16 +55,24 @@ is_term r e site t = (t.epoch == e) && ((t.site == site) && ends_after r t.until
 
 -- ---- only the last term is open, and where the partition is settled it is
 
-abbrev Over : ℕ → Term → Type 0
-Over n t = (m : ℕ) × (t.until ≡ Some m) × (m < n)
+record Over (n : ℕ) (t : Term) : Type 0 where
+  place : ℕ
+  ended : t.until ≡ Some place
+  before : place < n
+
+record Open (i x : ℕ) (t : Term) (ts : List Term) (n : ℕ) : Type 0 where
+  epoch : t.epoch ≡ x
+  site : t.site ≡ i
+  open' : t.until ≡ None
+  over : Each (Over n) ts
 
 abbrev Good : Placing → List Term → ℕ → Type 0
 Good (Settled i x) [] n = ⊥
-Good (Settled i x) (t ∷ ts) n = (t.epoch ≡ x) × (t.site ≡ i) × (t.until ≡ None) × Each (Over n) ts
+Good (Settled i x) (t ∷ ts) n = Open i x t ts n
 Good other ts n = Each (Over n) ts
 
 later : (n : ℕ) (ts : List Term) → Each (Over n) ts → Each (Over (suc n)) ts
-later n ts h = each_map (Over n) (Over (suc n)) (λ t o. (o.0, o.1, omega (arith, o.2))) ts h
+later n ts h = each_map (Over n) (Over (suc n)) (λ t o. (let m = o.before in record { place = o.place; ended = o.ended; before = omega (arith, m) })) ts h
 
 abbrev Stays : Placing → Placing → Type 0
 Stays (Settled i x) (Settled j y) = (i ≡ j) × (x ≡ y)
@@ -71,12 +80,12 @@ Stays before after = Unit {0}
 
 good_step : (before after : Placing) (ts : List Term) (n : ℕ) → Stays before after → Good before ts n → Good after (next_terms before after n ts) (suc n)
 good_step (Settled i x) (Settled j y) [] n s g = absurd g
-good_step (Settled i x) (Settled j y) (t ∷ ts) n s g = (g.0 ∙ s.1, g.1 ∙ s.0, g.2, later n ts g.3)
+good_step (Settled i x) (Settled j y) (t ∷ ts) n s g = record { epoch = g.epoch ∙ s.1; site = g.site ∙ s.0; open' = g.open'; over = later n ts g.over }
 good_step (Settled i x) other [] n s g = absurd g
-good_step (Settled i x) (Asked a b c) (t ∷ ts) n s g = ((n, refl, omega arith), later n ts g.3)
-good_step (Settled i x) (Between a b c v) (t ∷ ts) n s g = ((n, refl, omega arith), later n ts g.3)
-good_step (Settled i x) (Granted a b) (t ∷ ts) n s g = ((n, refl, omega arith), later n ts g.3)
-good_step other (Settled j y) ts n s g = (refl, refl, refl, later n ts g)
+good_step (Settled i x) (Asked a b c) (t ∷ ts) n s g = (record { place = n; ended = refl; before = omega arith }, later n ts g.over)
+good_step (Settled i x) (Between a b c v) (t ∷ ts) n s g = (record { place = n; ended = refl; before = omega arith }, later n ts g.over)
+good_step (Settled i x) (Granted a b) (t ∷ ts) n s g = (record { place = n; ended = refl; before = omega arith }, later n ts g.over)
+good_step other (Settled j y) ts n s g = record { epoch = refl; site = refl; open' = refl; over = later n ts g }
 good_step other after ts n s g = later n ts g
 
 -- a settled partition stays so or is no longer settled
@@ -98,7 +107,8 @@ stays p (Release site part epoch to vector) kept (Settled i x) = moved_or (part 
 stays p (Grant site part epoch vector) kept (Settled i x) = moved_or (part == p) (Granted site epoch) i x (λ j y e. cc (e))
 stays p (Restart site vector found) None (Settled i x) = (refl, refl)
 stays p (Restart site vector found) (Some (pending.Commit e)) (Settled i x) = (refl, refl)
-stays p (Restart site vector found) (Some (pending.Release part epoch to v)) (Settled i x) = moved_or (part == p) (Between site epoch to v) i x (λ j y e. cc (e))
+stays p (Restart site vector found) (Some (pending.Release part epoch to v)) (Settled i x) = moved_or (part == p) (Between site epoch to v) i x
+    (λ j y e. cc (e))
 stays p (Restart site vector found) (Some (pending.Grant part epoch v)) (Settled i x) = moved_or (part == p) (Granted site epoch) i x (λ j y e. cc (e))
 stays p other kept (Settled i x) = (refl, refl)
 stays p s kept (Asked a b c) = tt
@@ -107,19 +117,23 @@ stays p s kept (Granted a b) = tt
 
 module _ (layout : Layout) (p : ℕ) where
   stays_at : (s : Step) (past : List Step) → Stays (placing layout past p) (placing layout (s ∷ past) p)
-  stays_at s past = subst (λ (q : Placing). Stays (placing layout past p) q) (sym (placing_next layout s past p)) (stays p s (kept_of s past) (placing layout past p))
+  stays_at s past = subst (λ (q : Placing). Stays (placing layout past p) q) (sym (placing_next layout s past p))
+      (stays p s (kept_of s past) (placing layout past p))
 
   good : (past : List Step) → Good (placing layout past p) (terms layout p past) (length past)
-  good [] = (refl, refl, refl, tt)
+  good [] = record { epoch = refl; site = refl; open' = refl; over = tt }
   good (s ∷ past) = good_step (placing layout past p) (placing layout (s ∷ past) p) (terms layout p past) (length past) (stays_at s past) (good past)
 
 -- ---- what counts
 
 none_over : (n e site : ℕ) (ts : List Term) → Each (Over n) ts → list_any (is_term n e site) ts ≡ false
 none_over n e site [] h = refl
-none_over n e site (t ∷ ts) h = by (t.epoch == e) (t.site == site) (ap (λ (o : Option ℕ). ends_after n o) h.0.1 ∙ le-ltb n h.0.0 (omega (arith, h.0.2))) (none_over n e site ts h.1)
+none_over n e site (t ∷ ts) h = by (t.epoch == e) (t.site == site) (ap (λ (o : Option ℕ). ends_after n o) h.0.ended
+    ∙ le-ltb n h.0.place (let m = h.0.before in omega (arith, m)))
+    (none_over n e site ts h.1)
   where
-    by : (a b : Bool) → ends_after n t.until ≡ false → list_any (is_term n e site) ts ≡ false → ((a && (b && ends_after n t.until)) || list_any (is_term n e site) ts) ≡ false
+    by : (a b : Bool) → ends_after n t.until ≡ false → list_any (is_term n e site) ts ≡ false
+        → ((a && (b && ends_after n t.until)) || list_any (is_term n e site) ts) ≡ false
     by true true f g = rw f g
     by true false f g = g
     by false b f g = g
@@ -131,7 +145,8 @@ absorb false true c r x h = h
 absorb false false c r x h = h
 
 -- the epoch of a settled placing in front
-in_front : (site e i x : ℕ) (eps : List ℕ) → is_among (cons_option (settled_epoch site (Settled i x)) eps) e ≡ (if i == site then (x == e) || is_among eps e else is_among eps e)
+in_front : (site e i x : ℕ) (eps : List ℕ) → is_among (cons_option (settled_epoch site (Settled i x)) eps) e
+    ≡ (if i == site then (x == e) || is_among eps e else is_among eps e)
 in_front site e i x eps = by (i == site)
   where
     by : (b : Bool) → is_among (cons_option (if b then Some x else None) eps) e ≡ (if b then (x == e) || is_among eps e else is_among eps e)
@@ -146,37 +161,46 @@ fresh_term false false x = refl
 
 head_is : (r e site i x : ℕ) (t : Term) → t.epoch ≡ x → t.site ≡ i → t.until ≡ None → is_term r e site t ≡ ((x == e) && ((i == site) && true))
 head_is r e site i x t f g h =
-    ap (λ (n : ℕ). (n == e) && ((t.site == site) && ends_after r t.until)) f ∙ ap (λ (n : ℕ). (x == e) && ((n == site) && ends_after r t.until)) g ∙ ap (λ (o : Option ℕ). (x == e) && ((i == site) && ends_after r o)) h
+    ap (λ (n : ℕ). (n == e) && ((t.site == site) && ends_after r t.until)) f ∙ ap (λ (n : ℕ). (x == e) && ((n == site) && ends_after r t.until)) g
+    ∙ ap (λ (o : Option ℕ). (x == e) && ((i == site) && ends_after r o)) h
 
-closed_same : (r e site n : ℕ) (t : Term) (ts : List Term) → r < n → t.until ≡ None → list_any (is_term r e site) (t ∷ ts) ≡ list_any (is_term r e site) (close n (t ∷ ts))
+closed_same : (r e site n : ℕ) (t : Term) (ts : List Term) → r < n → t.until ≡ None → list_any (is_term r e site) (t ∷ ts)
+    ≡ list_any (is_term r e site) (close n (t ∷ ts))
 closed_same r e site n t ts l u =
-    ap (λ (b : Bool). ((t.epoch == e) && ((t.site == site) && b)) || list_any (is_term r e site) ts) (ap (λ (o : Option ℕ). ends_after r o) u ∙ sym (lt-ltb r n l))
+    ap (λ (b : Bool). ((t.epoch == e) && ((t.site == site) && b)) || list_any (is_term r e site) ts) (ap (λ (o : Option ℕ). ends_after r o) u
+    ∙ sym (lt-ltb r n l))
 
 count_step : (r e site : ℕ) (before after : Placing) (ts : List Term) (n : ℕ) (eps : List ℕ) → r < n → Stays before after → Good before ts n
-    → is_among eps e ≡ list_any (is_term r e site) ts → is_among (cons_option (settled_epoch site after) eps) e ≡ list_any (is_term r e site) (next_terms before after n ts)
+    → is_among eps e ≡ list_any (is_term r e site) ts → is_among (cons_option (settled_epoch site after) eps) e
+    ≡ list_any (is_term r e site) (next_terms before after n ts)
 count_step r e site (Settled i x) (Settled j y) [] n eps l s g h = absurd g
 count_step r e site (Settled i x) (Settled j y) (t ∷ ts) n eps l s g h =
-    let hd = head_is r e site i x t g.0 g.1 g.2 in
+    let hd = head_is r e site i x t g.epoch g.site g.open' in
     in_front site e j y eps
-    ∙ ap (λ (k : ℕ). if k == site then (y == e) || is_among eps e else is_among eps e) (sym s.0) ∙ ap (λ (k : ℕ). if i == site then (k == e) || is_among eps e else is_among eps e) (sym s.1)
+    ∙ ap (λ (k : ℕ). if k == site then (y == e) || is_among eps e else is_among eps e) (sym s.0)
+    ∙ ap (λ (k : ℕ). if i == site then (k == e) || is_among eps e else is_among eps e) (sym s.1)
     ∙ absorb (x == e) (i == site) true (list_any (is_term r e site) ts) (is_among eps e) (h ∙ ap (λ (b : Bool). b || list_any (is_term r e site) ts) hd)
     ∙ ap (λ (b : Bool). b || list_any (is_term r e site) ts) (sym hd)
 count_step r e site (Settled i x) other [] n eps l s g h = absurd g
-count_step r e site (Settled i x) (Asked a b c) (t ∷ ts) n eps l s g h = h ∙ closed_same r e site n t ts l g.2
-count_step r e site (Settled i x) (Between a b c v) (t ∷ ts) n eps l s g h = h ∙ closed_same r e site n t ts l g.2
-count_step r e site (Settled i x) (Granted a b) (t ∷ ts) n eps l s g h = h ∙ closed_same r e site n t ts l g.2
-count_step r e site (Asked a b c) (Settled j y) ts n eps l s g h = in_front site e j y eps ∙ fresh_term (y == e) (j == site) (is_among eps e) ∙ ap (λ (x : Bool). ((y == e) && ((j == site) && true)) || x) h
-count_step r e site (Between a b c v) (Settled j y) ts n eps l s g h = in_front site e j y eps ∙ fresh_term (y == e) (j == site) (is_among eps e) ∙ ap (λ (x : Bool). ((y == e) && ((j == site) && true)) || x) h
-count_step r e site (Granted a b) (Settled j y) ts n eps l s g h = in_front site e j y eps ∙ fresh_term (y == e) (j == site) (is_among eps e) ∙ ap (λ (x : Bool). ((y == e) && ((j == site) && true)) || x) h
+count_step r e site (Settled i x) (Asked a b c) (t ∷ ts) n eps l s g h = h ∙ closed_same r e site n t ts l g.open'
+count_step r e site (Settled i x) (Between a b c v) (t ∷ ts) n eps l s g h = h ∙ closed_same r e site n t ts l g.open'
+count_step r e site (Settled i x) (Granted a b) (t ∷ ts) n eps l s g h = h ∙ closed_same r e site n t ts l g.open'
+count_step r e site (Asked a b c) (Settled j y) ts n eps l s g h = in_front site e j y eps ∙ fresh_term (y == e) (j == site) (is_among eps e)
+    ∙ ap (λ (x : Bool). ((y == e) && ((j == site) && true)) || x) h
+count_step r e site (Between a b c v) (Settled j y) ts n eps l s g h = in_front site e j y eps ∙ fresh_term (y == e) (j == site) (is_among eps e)
+    ∙ ap (λ (x : Bool). ((y == e) && ((j == site) && true)) || x) h
+count_step r e site (Granted a b) (Settled j y) ts n eps l s g h = in_front site e j y eps ∙ fresh_term (y == e) (j == site) (is_among eps e)
+    ∙ ap (λ (x : Bool). ((y == e) && ((j == site) && true)) || x) h
 count_step r e site before after ts n eps l s g h = h
 
 -- at the Route itself only the open term counts
-at_route : (e site : ℕ) (now : Placing) (ts : List Term) (n : ℕ) → Good now ts n → is_among (cons_option (settled_epoch site now) []) e ≡ list_any (is_term n e site) ts
+at_route : (e site : ℕ) (now : Placing) (ts : List Term) (n : ℕ) → Good now ts n → is_among (cons_option (settled_epoch site now) []) e
+    ≡ list_any (is_term n e site) ts
 at_route e site (Settled i x) [] n g = absurd g
 at_route e site (Settled i x) (t ∷ ts) n g =
     in_front site e i x [] ∙ fresh_term (x == e) (i == site) false
-    ∙ ap (λ (b : Bool). ((x == e) && ((i == site) && true)) || b) (sym (none_over n e site ts g.3))
-    ∙ ap (λ (b : Bool). b || list_any (is_term n e site) ts) (sym (head_is n e site i x t g.0 g.1 g.2))
+    ∙ ap (λ (b : Bool). ((x == e) && ((i == site) && true)) || b) (sym (none_over n e site ts g.over))
+    ∙ ap (λ (b : Bool). b || list_any (is_term n e site) ts) (sym (head_is n e site i x t g.epoch g.site g.open'))
 at_route e site other ts n g = sym (none_over n e site ts g)
 
 next_same : (q : Placing) (n : ℕ) (ts : List Term) → next_terms q q n ts ≡ ts
@@ -205,7 +229,8 @@ module _ (layout : Layout) (c p site e : ℕ) where
     where
       by : (b : Bool) → is_route c s ≡ b → (if b then Some (length past) else route_place c past) ≡ Some r
           → (route_place c past ≡ Some r → is_among (settled_epochs layout past c p site) e ≡ list_any (is_term r e site) (terms layout p past))
-          → is_among (cons_option (settled_epoch site (placing layout (s ∷ past) p)) (filter_map (settled_epoch site) (if b then [] else placings_since layout past c p))) e
+          → is_among (cons_option (settled_epoch site (placing layout (s ∷ past) p))
+          (filter_map (settled_epoch site) (if b then [] else placings_since layout past c p))) e
           ≡ list_any (is_term r e site) (next_terms (placing layout past p) (placing layout (s ∷ past) p) (length past) (terms layout p past))
       by true f g k =
           let place : length past ≡ r = cc (g) in
@@ -213,7 +238,9 @@ module _ (layout : Layout) (c p site e : ℕ) where
           ap (λ (q : Placing). is_among (cons_option (settled_epoch site q) []) e) same
           ∙ at_route e site (placing layout past p) (terms layout p past) (length past) (good layout p past)
           ∙ ap (λ (n : ℕ). list_any (is_term n e site) (terms layout p past)) place
-          ∙ ap (λ (ts : List Term). list_any (is_term r e site) ts) (sym (ap (λ (q : Placing). next_terms (placing layout past p) q (length past) (terms layout p past)) same ∙ next_same (placing layout past p) (length past) (terms layout p past)))
+          ∙ ap (λ (ts : List Term). list_any (is_term r e site) ts)
+          (sym (ap (λ (q : Placing). next_terms (placing layout past p) q (length past) (terms layout p past)) same
+          ∙ next_same (placing layout past p) (length past) (terms layout p past)))
       by false f g k =
           count_step r e site (placing layout past p) (placing layout (s ∷ past) p) (terms layout p past) (length past) (settled_epochs layout past c p site)
           (route_before c past r g) (stays_at layout p s past) (good layout p past) (k g)

@@ -1,0 +1,5 @@
+mod Sums
+mod KeptNext
+mod Needs
+mod Installing
+mod Worked
