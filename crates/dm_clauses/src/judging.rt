@@ -127,6 +127,7 @@ fn begin_why<T: Told>(told: &T, site: SiteNo, txn: TxnId, begin: &Vector) -> Opt
     ensures { result ≡ first (begin_clauses (T.layout told.now) (T.past told.now) site txn begin.now) }
 {
     told.is_legal();
+    // Only of an attempt that stands routed or runs is told what it declares.
     let to = routed_to(told, txn);
     if to.is_none() {
         return Some(Why::NotRouted);

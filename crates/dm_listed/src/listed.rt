@@ -53,6 +53,7 @@ impl<'a> Told for Listed<'a> {
     ghost past = { λ l. l.past };
 
     fn is_legal(&self) {
+        // A length tells that there are few.
         let _few = self.steps.len();
     }
 

@@ -1,4 +1,4 @@
-use Rattle.std.proofs.Common.{◌≡◌, ℕ, true, ap, ◌∙◌, eq-eqb, refl}
+use Rattle.std.proofs.Common.{ap, ◌∙◌, eq-eqb, refl}
 use Rattle.dm_event.specs.declared.step.Want.{Want}
 use Rattle.dm_model.specs.Outcomes.{wants_place, wants_restart}
 use Rattle.dm_outcomes.proofs.outcomes.due_of.Goals as goal
