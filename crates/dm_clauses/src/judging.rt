@@ -1,15 +1,15 @@
-//! Whether a step may follow a list of steps, and why not.
+//! Whether a step may follow a history, and why not.
 
-ghost use Rattle.std.specs.Prelude.{◌≡◌, ◌<◌, ◌≤◌, ◌+◌, reverse, option_map, option_and_then, option_copied, is_none, true, not, find};
+ghost use Rattle.std.specs.Prelude.{◌≡◌, ◌<◌, ◌≤◌, ◌+◌, option_map, option_and_then, option_copied, is_none, true, not, find};
 ghost use Rattle.std.specs.List.{list_all};
 ghost use Rattle.dm_event.specs.Layout.{is_key, is_site};
 ghost use Rattle.dm_event.specs.declared.step.Step.TheVariants.{Doubt, Refresh, Route};
 ghost use Rattle.dm_event.specs.Vectors.{first_above};
 ghost use Rattle.dm_model.specs.Allowed.{elsewhere, missing_for, next_entry, route_clauses, reply_clauses, begin_clauses, moved_clauses, commit_clauses, end_clauses, fail_clauses, refresh_clauses, clauses, next_refresh, refusal};
 ghost use Rattle.dm_model.specs.Attempts.{routed_txn};
-ghost use Rattle.dm_model.specs.Choices.{due_for, window as window_of};
+ghost use Rattle.dm_model.specs.Choices.{due_for};
 ghost use Rattle.dm_model.specs.Clauses.{first};
-ghost use Rattle.dm_model.specs.Legal.{Legal};
+ghost use Rattle.dm_model.specs.Placings.{may_begin_now};
 ghost use Rattle.dm_model.specs.Shape.{is_said, is_want, is_shaped};
 ghost use Rattle.dm_clauses.specs.Judging.{away};
 
@@ -23,59 +23,41 @@ use crate::rows::{
 use crate::shape::is_shaped;
 use dm_body::{body_fits, has_writes, reads_fit, undeclared_in};
 use dm_event::{
-    Choice, Entry, Key, Op, Pair, Part, Pending, Said, Schema, SiteNo, Step, TxnId, Vector, Want,
+    Choice, Entry, Key, Op, Pair, Part, Pending, Placing, Said, SiteNo, Step, TxnId, Vector, Want,
     Why,
 };
 use dm_outcomes::may_say;
-use dm_placement::Window;
-use dm_plain::{
-    Reading, attempt, begin_vector, declared, entry_at, entry_count, holder, is_down,
-    may_begin_now, placing, reached, replies, routed_txn, routes, run_site, session_vector,
-    site_vector, stands_routed,
-};
+use dm_told::{Reading, Told, routed_to, routed_txn, sites, stands_routed};
 
 /// The site and the choice that are due for a Route to the site.
-fn due_for(
-    schema: &Schema,
-    steps: &[Step],
-    window: &Window,
-    session: u32,
-    want: &Want,
-    site: SiteNo,
-) -> (SiteNo, Choice)
-    requires legal { Legal schema.now steps.now }
+fn due_for<T: Told>(told: &T, session: u32, want: &Want, site: SiteNo) -> (SiteNo, Choice)
     requires session { 1 ≤ session }
-    requires want { is_want schema.now want.now ≡ true }
-    requires window { window.now ≡ reverse (window_of schema.now (reverse steps.now)) }
-    ensures { result ≡ due_for schema.now (reverse steps.now) session want.now site }
+    requires want { is_want (T.layout told.now) want.now ≡ true }
+    ensures { result ≡ due_for (T.layout told.now) (T.past told.now) session want.now site }
 {
     match want {
-        Want::Txn(keys) => choice_due(schema, steps, window, session, keys),
+        Want::Txn(keys) => choice_due(told, session, keys),
         Want::Place(_) | Want::Restart => (site, Choice::Hand),
     }
 }
 
-fn route_why(
-    schema: &Schema,
-    steps: &[Step],
-    window: &Window,
+fn route_why<T: Told>(
+    told: &T,
     txn: TxnId,
     want: &Want,
     min: &Vector,
     site: SiteNo,
     choice: Choice,
 ) -> Option<Why>
-    requires legal { Legal schema.now steps.now }
-    requires shaped { is_shaped schema.now (Route txn want.now min.now site choice) ≡ true }
-    requires window { window.now ≡ reverse (window_of schema.now (reverse steps.now)) }
-    ensures { result ≡ first (route_clauses schema.now (reverse steps.now) txn want.now min.now site choice) }
+    requires { is_shaped (T.layout told.now) (Route txn want.now min.now site choice) ≡ true }
+    ensures { result ≡ first (route_clauses (T.layout told.now) (T.past told.now) txn want.now min.now site choice) }
 {
     route_refusal(
-        replies(steps, txn.session) + 1,
-        routes(steps, txn.session) + 1,
-        session_vector(schema, steps, txn.session),
-        due_for(schema, steps, window, txn.session, want, site),
-        attempt(steps, txn.session),
+        told.replies(txn.session) + 1,
+        told.routes(txn.session) + 1,
+        told.session_vector(txn.session),
+        due_for(told, txn.session, want, site),
+        told.attempt(txn.session),
         txn,
         min,
         site,
@@ -83,24 +65,33 @@ fn route_why(
     )
 }
 
-fn reply_why(schema: &Schema, steps: &[Step], session: u32, number: u32, said: Said) -> Option<Why>
-    requires { is_said schema.now said ≡ true }
-    ensures { result ≡ first (reply_clauses schema.now (reverse steps.now) session number said) }
+fn reply_why<T: Told>(told: &T, session: u32, number: u32, said: Said) -> Option<Why>
+    requires { is_said (T.layout told.now) said ≡ true }
+    ensures { result ≡ first (reply_clauses (T.layout told.now) (T.past told.now) session number said) }
 {
     reply_refusal(
-        replies(steps, session) + 1,
-        may_say(schema, steps, session, said),
+        told.replies(session) + 1,
+        may_say(told, session, said),
         number,
     )
 }
 
-/// The key's partition, where the site may not begin on it.
-fn away(schema: &Schema, steps: &[Step], site: SiteNo, key: Key) -> Option<Part>
-    requires { is_key schema.now key ≡ true }
-    ensures { result ≡ away schema.now (reverse steps.now) site key }
+fn may_begin_now(now: Placing, site: SiteNo) -> bool
+    ensures { result ≡ may_begin_now now site }
 {
-    match schema.part_of(key) {
-        Some(part) => if may_begin_now(placing(schema, steps, part), site) {
+    match now {
+        Placing::Settled { site: at, .. } | Placing::Granted { site: at, .. } => at == site,
+        Placing::Asked { .. } | Placing::Between { .. } => false,
+    }
+}
+
+/// The key's partition, where the site may not begin on it.
+fn away<T: Told>(told: &T, site: SiteNo, key: Key) -> Option<Part>
+    requires { is_key (T.layout told.now) key ≡ true }
+    ensures { result ≡ away (T.layout told.now) (T.past told.now) site key }
+{
+    match told.schema().part_of(key) {
+        Some(part) => if may_begin_now(told.placing(part), site) {
             None
         } else {
             Some(part)
@@ -110,12 +101,12 @@ fn away(schema: &Schema, steps: &[Step], site: SiteNo, key: Key) -> Option<Part>
 }
 
 /// The least of the keys' partitions on which the site may not begin.
-fn elsewhere(schema: &Schema, steps: &[Step], site: SiteNo, keys: &[Key]) -> Option<Part>
-    requires { list_all (is_key schema.now) keys.now ≡ true }
-    ensures { result ≡ elsewhere schema.now (reverse steps.now) site keys.now }
+fn elsewhere<T: Told>(told: &T, site: SiteNo, keys: &[Key]) -> Option<Part>
+    requires { list_all (is_key (T.layout told.now)) keys.now ≡ true }
+    ensures { result ≡ elsewhere (T.layout told.now) (T.past told.now) site keys.now }
 {
     for key in keys {
-        if let Some(part) = away(schema, steps, site, *key) {
+        if let Some(part) = away(told, site, *key) {
             return Some(part);
         }
     }
@@ -123,62 +114,55 @@ fn elsewhere(schema: &Schema, steps: &[Step], site: SiteNo, keys: &[Key]) -> Opt
 }
 
 /// The least component in which the minimum of the attempt's Route is above the begin vector.
-fn behind(steps: &[Step], txn: TxnId, begin: &Vector) -> Option<SiteNo>
-    ensures { result ≡ option_and_then (λ r. first_above r.min begin.now) (routed_txn txn (reverse steps.now)) }
+fn behind<T: Told>(told: &T, txn: TxnId, begin: &Vector) -> Option<SiteNo>
+    ensures { result ≡ option_and_then (λ r. first_above r.min begin.now) (routed_txn txn (T.past told.now)) }
 {
-    match routed_txn(steps, txn) {
+    match routed_txn(told, txn) {
         Some(routing) => routing.min.first_above(begin),
         None => None,
     }
 }
 
-/// The site to which the attempt is routed for a transaction.
-fn routed_to(steps: &[Step], txn: TxnId) -> Option<SiteNo>
-    ensures { result ≡ option_map (λ r. r.site) (routed_txn txn (reverse steps.now)) }
+fn begin_why<T: Told>(told: &T, site: SiteNo, txn: TxnId, begin: &Vector) -> Option<Why>
+    ensures { result ≡ first (begin_clauses (T.layout told.now) (T.past told.now) site txn begin.now) }
 {
-    match routed_txn(steps, txn) {
-        Some(routing) => Some(routing.site),
-        None => None,
+    told.is_legal();
+    // Only of an attempt that stands routed or runs is told what it declares.
+    let to = routed_to(told, txn);
+    if to.is_none() {
+        return Some(Why::NotRouted);
     }
-}
-
-fn begin_why(
-    schema: &Schema,
-    steps: &[Step],
-    site: SiteNo,
-    txn: TxnId,
-    begin: &Vector,
-) -> Option<Why>
-    requires { Legal schema.now steps.now }
-    ensures { result ≡ first (begin_clauses schema.now (reverse steps.now) site txn begin.now) }
-{
-    let keys = declared(steps, txn);
+    let keys = told.declared(txn);
     let reads = BeginReads {
-        to: routed_to(steps, txn),
-        down: is_down(steps, site),
-        elsewhere: elsewhere(schema, steps, site, keys),
-        vector: site_vector(schema, steps, site),
-        behind: behind(steps, txn, begin),
-        holder: holder(steps, site, keys),
+        to,
+        down: told.is_down(site),
+        elsewhere: elsewhere(told, site, keys),
+        vector: told.vector(site),
+        behind: behind(told, txn, begin),
+        holder: told.holder(site, keys),
     };
     begin_refusal(reads, site, begin)
 }
 
-fn commit_why(schema: &Schema, steps: &[Step], entry: &Entry) -> Option<Why>
-    requires { Legal schema.now steps.now }
-    ensures { result ≡ first (commit_clauses schema.now (reverse steps.now) entry.now) }
+fn commit_why<T: Told>(told: &T, entry: &Entry) -> Option<Why>
+    requires { is_site (T.layout told.now) entry.now.origin ≡ true }
+    ensures { result ≡ first (commit_clauses (T.layout told.now) (T.past told.now) entry.now) }
 {
+    told.is_legal();
+    let runs = told.run_site(entry.txn);
+    if runs.is_none() {
+        return Some(Why::NotRunning);
+    }
     let mut reading = Reading {
-        schema,
-        steps,
+        told,
         at: &entry.begin,
     };
     let ops = entry.ops.as_slice();
     let reads = CommitReads {
-        runs: run_site(schema, steps, entry.txn),
-        due: entry_count(steps, entry.origin) + 1,
-        begin: begin_vector(steps, entry.txn),
-        undeclared: undeclared_in(declared(steps, entry.txn), ops),
+        runs,
+        due: told.entry_count(entry.origin) + 1,
+        begin: told.begin_vector(entry.txn),
+        undeclared: undeclared_in(told.declared(entry.txn), ops),
         fits: body_fits(
             ops,
             entry.reads.as_slice(),
@@ -189,28 +173,21 @@ fn commit_why(schema: &Schema, steps: &[Step], entry: &Entry) -> Option<Why>
     commit_refusal(reads, has_writes(ops), entry)
 }
 
-fn end_why(
-    schema: &Schema,
-    steps: &[Step],
-    site: SiteNo,
-    txn: TxnId,
-    ops: &[Op],
-    reads: &[Pair],
-) -> Option<Why>
-    requires { Legal schema.now steps.now }
-    ensures { result ≡ first (end_clauses schema.now (reverse steps.now) site txn ops.now reads.now) }
+fn end_why<T: Told>(told: &T, site: SiteNo, txn: TxnId, ops: &[Op], reads: &[Pair]) -> Option<Why>
+    ensures { result ≡ first (end_clauses (T.layout told.now) (T.past told.now) site txn ops.now reads.now) }
 {
+    told.is_legal();
+    let runs = told.run_site(txn);
+    if runs.is_none() {
+        return Some(Why::NotRunning);
+    }
     // What runs has begun.
-    let Some(begin) = begin_vector(steps, txn) else {
+    let Some(begin) = told.begin_vector(txn) else {
         return Some(Why::NotRunning);
     };
-    let mut reading = Reading {
-        schema,
-        steps,
-        at: &begin,
-    };
+    let mut reading = Reading { told, at: &begin };
     end_refusal(
-        run_site(schema, steps, txn),
+        runs,
         has_writes(ops),
         reads_fit(ops, reads, &mut reading),
         site,
@@ -218,24 +195,18 @@ fn end_why(
 }
 
 /// The entry of the origin that the site would take over next.
-fn next_entry<'a>(
-    schema: &Schema,
-    steps: &'a [Step],
-    site: SiteNo,
-    origin: SiteNo,
-) -> Option<&'a Entry>
-    requires legal { Legal schema.now steps.now }
-    requires origin { is_site schema.now origin ≡ true }
-    ensures { option_copied result ≡ next_entry schema.now (reverse steps.now) site origin }
+fn next_entry<T: Told>(told: &T, site: SiteNo, origin: SiteNo) -> Option<&Entry>
+    requires { is_site (T.layout told.now) origin ≡ true }
+    ensures { option_copied result ≡ next_entry (T.layout told.now) (T.past told.now) site origin }
 {
-    entry_at(steps, origin, reached(schema, steps, site, origin) + 1)
+    told.entry(origin, told.reached(site, origin) + 1)
 }
 
 /// The least site, other than the entry's origin, of which the vector has less than the entry needs.
-fn missing_for(schema: &Schema, vector: &Vector, entry: &Entry) -> Option<SiteNo>
-    ensures { result ≡ missing_for schema.now.sites vector.now entry.now }
+fn missing_for<T: Told>(told: &T, vector: &Vector, entry: &Entry) -> Option<SiteNo>
+    ensures { result ≡ missing_for (T.layout told.now).sites vector.now entry.now }
 {
-    for site in 1..schema.sites() + 1 {
+    for site in 1..sites(told) + 1 {
         if site != entry.origin && vector.get(site) < entry.begin.get(site) {
             return Some(site);
         }
@@ -243,72 +214,74 @@ fn missing_for(schema: &Schema, vector: &Vector, entry: &Entry) -> Option<SiteNo
     None
 }
 
-fn refresh_why(schema: &Schema, steps: &[Step], site: SiteNo, origin: SiteNo) -> Option<Why>
-    requires legal { Legal schema.now steps.now }
-    requires origin { is_site schema.now origin ≡ true }
-    ensures { result ≡ first (refresh_clauses schema.now (reverse steps.now) site origin) }
+fn refresh_why<T: Told>(told: &T, site: SiteNo, origin: SiteNo) -> Option<Why>
+    requires { is_site (T.layout told.now) origin ≡ true }
+    ensures { result ≡ first (refresh_clauses (T.layout told.now) (T.past told.now) site origin) }
 {
-    let next = next_entry(schema, steps, site, origin);
-    let vector = site_vector(schema, steps, site);
+    let next = next_entry(told, site, origin);
+    let vector = told.vector(site);
     let behind = match next {
-        Some(entry) => missing_for(schema, &vector, entry),
+        Some(entry) => missing_for(told, &vector, entry),
         None => None,
     };
-    refresh_refusal(is_down(steps, site), next.is_some(), behind, site, origin)
+    refresh_refusal(told.is_down(site), next.is_some(), behind, site, origin)
 }
 
-fn moved_why(schema: &Schema, steps: &[Step], site: SiteNo, txn: TxnId) -> Option<Why>
-    requires { Legal schema.now steps.now }
-    ensures { result ≡ first (moved_clauses schema.now (reverse steps.now) site txn) }
+fn moved_why<T: Told>(told: &T, site: SiteNo, txn: TxnId) -> Option<Why>
+    ensures { result ≡ first (moved_clauses (T.layout told.now) (T.past told.now) site txn) }
 {
+    told.is_legal();
+    let to = routed_to(told, txn);
+    if to.is_none() {
+        return Some(Why::NotRouted);
+    }
     moved_refusal(
-        routed_to(steps, txn),
-        is_down(steps, site),
-        elsewhere(schema, steps, site, declared(steps, txn)),
+        to,
+        told.is_down(site),
+        elsewhere(told, site, told.declared(txn)),
         site,
     )
 }
 
-fn fail_why(schema: &Schema, steps: &[Step], site: SiteNo, txn: TxnId) -> Option<Why>
-    ensures { result ≡ first (fail_clauses schema.now (reverse steps.now) site txn) }
+fn fail_why<T: Told>(told: &T, site: SiteNo, txn: TxnId) -> Option<Why>
+    ensures { result ≡ first (fail_clauses (T.layout told.now) (T.past told.now) site txn) }
 {
-    fail_refusal(
-        stands_routed(steps, txn),
-        run_site(schema, steps, txn),
-        site,
-    )
+    fail_refusal(stands_routed(told, txn), told.run_site(txn), site)
 }
 
 /// A Doubt is judged as its pending step would be.
-fn doubt_why(schema: &Schema, steps: &[Step], site: SiteNo, pending: &Pending) -> Option<Why>
-    requires legal { Legal schema.now steps.now }
-    requires shaped { is_shaped schema.now (Doubt site pending.now) ≡ true }
-    ensures { result ≡ first (clauses schema.now (reverse steps.now) (Doubt site pending.now)) }
+fn doubt_why<T: Told>(told: &T, site: SiteNo, pending: &Pending) -> Option<Why>
+    requires { is_shaped (T.layout told.now) (Doubt site pending.now) ≡ true }
+    ensures { result ≡ first (clauses (T.layout told.now) (T.past told.now) (Doubt site pending.now)) }
 {
     match pending {
-        Pending::Commit(entry) => commit_why(schema, steps, entry),
+        Pending::Commit(entry) => commit_why(told, entry),
         Pending::Release {
             part,
             epoch,
             to,
             vector,
-        } => release_why(schema, steps, site, *part, *epoch, *to, vector),
+        } => release_why(told, site, *part, *epoch, *to, vector),
         Pending::Grant {
             part,
             epoch,
             vector,
-        } => grant_why(schema, steps, site, *part, *epoch, vector),
+        } => grant_why(told, site, *part, *epoch, vector),
     }
 }
 
-/// Why the step may not follow the steps: the first of its shape and its clauses that fails. The window
-/// has the sets of partitions of the last Routes with declared keys.
-pub fn refusal(schema: &Schema, steps: &[Step], window: &Window, step: &Step) -> Option<Why>
-    requires legal { Legal schema.now steps.now }
-    requires window { window.now ≡ reverse (window_of schema.now (reverse steps.now)) }
-    ensures { result ≡ refusal schema.now (reverse steps.now) step.now }
+/// Whether each number of the step is in its range.
+fn has_shape<T: Told>(told: &T, step: &Step) -> bool
+    ensures { result ≡ is_shaped (T.layout told.now) step.now }
 {
-    if !is_shaped(schema, step) {
+    is_shaped(told.schema(), step)
+}
+
+/// Why the step may not follow the history: the first of its shape and its clauses that fails.
+pub fn refusal<T: Told>(told: &T, step: &Step) -> Option<Why>
+    ensures { result ≡ refusal (T.layout told.now) (T.past told.now) step.now }
+{
+    if !has_shape(told, step) {
         return Some(Why::Shape);
     }
     match step {
@@ -318,68 +291,65 @@ pub fn refusal(schema: &Schema, steps: &[Step], window: &Window, step: &Step) ->
             min,
             site,
             choice,
-        } => route_why(schema, steps, window, *txn, want, min, *site, *choice),
+        } => route_why(told, *txn, want, min, *site, *choice),
         Step::Reply {
             session,
             number,
             said,
-        } => reply_why(schema, steps, *session, *number, *said),
-        Step::Begin { site, txn, begin } => begin_why(schema, steps, *site, *txn, begin),
-        Step::Commit { entry } => commit_why(schema, steps, entry),
+        } => reply_why(told, *session, *number, *said),
+        Step::Begin { site, txn, begin } => begin_why(told, *site, *txn, begin),
+        Step::Commit { entry } => commit_why(told, entry),
         Step::End {
             site,
             txn,
             ops,
             reads,
-        } => end_why(schema, steps, *site, *txn, ops.as_slice(), reads.as_slice()),
-        Step::Refresh { site, origin } => refresh_why(schema, steps, *site, *origin),
-        Step::Moved { site, txn } => moved_why(schema, steps, *site, *txn),
-        Step::Fail { site, txn, .. } => fail_why(schema, steps, *site, *txn),
+        } => end_why(told, *site, *txn, ops.as_slice(), reads.as_slice()),
+        Step::Refresh { site, origin } => refresh_why(told, *site, *origin),
+        Step::Moved { site, txn } => moved_why(told, *site, *txn),
+        Step::Fail { site, txn, .. } => fail_why(told, *site, *txn),
         Step::Ask {
             part,
             epoch,
             to,
             txn,
-        } => ask_why(schema, steps, *part, *epoch, *to, *txn),
-        Step::Settle { part, epoch } => settle_why(schema, steps, *part, *epoch),
+        } => ask_why(told, *part, *epoch, *to, *txn),
+        Step::Settle { part, epoch } => settle_why(told, *part, *epoch),
         Step::Release {
             site,
             part,
             epoch,
             to,
             vector,
-        } => release_why(schema, steps, *site, *part, *epoch, *to, vector),
+        } => release_why(told, *site, *part, *epoch, *to, vector),
         Step::Grant {
             site,
             part,
             epoch,
             vector,
-        } => grant_why(schema, steps, *site, *part, *epoch, vector),
-        Step::Doubt { site, pending } => doubt_why(schema, steps, *site, pending),
+        } => grant_why(told, *site, *part, *epoch, vector),
+        Step::Doubt { site, pending } => doubt_why(told, *site, pending),
         Step::Restart {
             site,
             vector,
             found,
-        } => restart_why(schema, steps, *site, vector, *found),
+        } => restart_why(told, *site, vector, *found),
     }
 }
 
 /// Whether the site may take over the origin's next entry.
-fn may_refresh(schema: &Schema, steps: &[Step], site: SiteNo, origin: SiteNo) -> bool
-    requires { Legal schema.now steps.now }
-    ensures { result ≡ is_none (refusal schema.now (reverse steps.now) (Refresh site origin)) }
+fn may_refresh<T: Told>(told: &T, site: SiteNo, origin: SiteNo) -> bool
+    ensures { result ≡ is_none (refusal (T.layout told.now) (T.past told.now) (Refresh site origin)) }
 {
-    is_shaped(schema, &Step::Refresh { site, origin })
-        && refresh_why(schema, steps, site, origin).is_none()
+    has_shape(told, &Step::Refresh { site, origin }) && refresh_why(told, site, origin).is_none()
 }
 
 /// The least origin whose next entry the site may take over.
-pub fn next_refresh(schema: &Schema, steps: &[Step], site: SiteNo) -> Option<SiteNo>
-    requires { Legal schema.now steps.now }
-    ensures { result ≡ next_refresh schema.now (reverse steps.now) site }
+pub fn next_refresh<T: Told>(told: &T, site: SiteNo) -> Option<SiteNo>
+    ensures { result ≡ next_refresh (T.layout told.now) (T.past told.now) site }
 {
-    for origin in 1..schema.sites() + 1 {
-        if may_refresh(schema, steps, site, origin) {
+    for origin in 1..sites(told) + 1 {
+        if may_refresh(told, site, origin) {
             return Some(origin);
         }
     }

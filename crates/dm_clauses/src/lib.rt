@@ -1,4 +1,4 @@
-//! The clauses of each kind of step: whether a step may follow a list of steps, and why not.
+//! The clauses of each kind of step: whether a step may follow a history, and why not.
 #![tactic(auto)]
 
 mod choosing;

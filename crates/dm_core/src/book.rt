@@ -29,6 +29,7 @@ use dm_event::{
     Attempt, Choice, Entry, Key, MAX_SESSIONS, NoMemory, Part, Pending, Placing, Said, Schema,
     SiteNo, Step, TxnId, Value, Vector, Want, Why,
 };
+use dm_listed::Listed;
 use dm_model::refreshes_reach_full;
 use dm_placement::Window;
 use dm_store::Past;
@@ -108,6 +109,15 @@ impl Book {
         ensures { result.now ≡ self.now.layout }
     {
         &self.schema
+    }
+
+    /// The history as the clauses ask it.
+    fn listed(&self) -> Listed<'_>
+        ensures layout { result.layout ≡ self.now.layout }
+        ensures past { result.past ≡ past self.now }
+        ensures legal { Legal self.now.layout self.now.steps }
+    {
+        Listed::new(&self.schema, &self.steps, &self.window)
     }
 
     /// The key's value at the vector.
@@ -246,7 +256,7 @@ impl Book {
             → IsNone result ↔ (site_vector self.now.layout.sites (past self.now) site ≡ full self.now.layout.sites (past self.now)) }
     {
         refreshes_reach_full();
-        dm_clauses::next_refresh(&self.schema, &self.steps, site)
+        dm_clauses::next_refresh(&self.listed(), site)
     }
 
     /// The site and the choice that are due for a transaction of the session.
@@ -257,13 +267,7 @@ impl Book {
         ensures { result ≡ choice_due self.now.layout (past self.now) session (wanted_keys want.now) }
     {
         match want {
-            Want::Txn(keys) => dm_clauses::choice_due(
-                &self.schema,
-                &self.steps,
-                &self.window,
-                session,
-                keys,
-            ),
+            Want::Txn(keys) => dm_clauses::choice_due(&self.listed(), session, keys),
             Want::Place(_) | Want::Restart => unreachable!(),
         }
     }
@@ -272,14 +276,14 @@ impl Book {
     pub fn said_for(&self, session: u32) -> Option<Said>
         ensures { result ≡ said_due self.now.layout (past self.now) session }
     {
-        dm_outcomes::said_due(&self.schema, &self.steps, session)
+        dm_outcomes::said_due(&self.listed(), session)
     }
 
     /// Whether the step may follow the history, and why not: the first rule that it breaks.
     pub fn enabled(&self, step: &Step) -> Result<(), Why>
         ensures { MatchResult result (λ done. refusal self.now.layout (past self.now) step.now ≡ None) (λ why. refusal self.now.layout (past self.now) step.now ≡ Some why) }
     {
-        match dm_clauses::refusal(&self.schema, &self.steps, &self.window, step) {
+        match dm_clauses::refusal(&self.listed(), step) {
             None => Ok(()),
             Some(why) => Err(why),
         }

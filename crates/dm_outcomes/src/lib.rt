@@ -3,7 +3,6 @@
 
 mod causes;
 mod outcomes;
-mod since;
 mod states;
 mod wants;
 

@@ -1,10 +1,10 @@
 //! What a session stands routed for.
 
-ghost use Rattle.std.specs.Prelude.{◌≡◌, true, reverse};
+ghost use Rattle.std.specs.Prelude.{◌≡◌, true};
 ghost use Rattle.dm_model.specs.Outcomes.{wants_place, wants_restart, is_routed_for};
 
-use dm_event::{Part, SiteNo, Step, Want};
-use dm_plain::{is_routed, last_routing, last_want, state};
+use dm_event::{Part, SiteNo, Want};
+use dm_told::{Told, is_routed};
 
 fn wants_place(want: &Want, part: Part) -> bool
     ensures { result ≡ wants_place part want.now }
@@ -24,29 +24,29 @@ fn wants_restart(want: &Want) -> bool
     }
 }
 
-fn is_routed_to(steps: &[Step], session: u32, site: SiteNo) -> bool
-    ensures { result ≡ is_routed_for session site (λ want. true) (reverse steps.now) }
+fn is_routed_to<T: Told>(told: &T, session: u32, site: SiteNo) -> bool
+    ensures { result ≡ is_routed_for session site (λ want. true) (T.past told.now) }
 {
-    match last_routing(steps, session) {
-        Some(routing) => is_routed(state(steps, session)) && routing.site == site,
+    match told.last_routing(session) {
+        Some(routing) => is_routed(told.attempt(session).state) && routing.site == site,
         None => false,
     }
 }
 
-pub(crate) fn is_routed_for_place(steps: &[Step], session: u32, site: SiteNo, part: Part) -> bool
-    ensures { result ≡ is_routed_for session site (wants_place part) (reverse steps.now) }
+pub(crate) fn is_routed_for_place<T: Told>(told: &T, session: u32, site: SiteNo, part: Part) -> bool
+    ensures { result ≡ is_routed_for session site (wants_place part) (T.past told.now) }
 {
-    match last_want(steps, session) {
-        Some(want) => is_routed_to(steps, session, site) && wants_place(want, part),
+    match told.last_want(session) {
+        Some(want) => is_routed_to(told, session, site) && wants_place(want, part),
         None => false,
     }
 }
 
-pub(crate) fn is_routed_for_restart(steps: &[Step], session: u32, site: SiteNo) -> bool
-    ensures { result ≡ is_routed_for session site wants_restart (reverse steps.now) }
+pub(crate) fn is_routed_for_restart<T: Told>(told: &T, session: u32, site: SiteNo) -> bool
+    ensures { result ≡ is_routed_for session site wants_restart (T.past told.now) }
 {
-    match last_want(steps, session) {
-        Some(want) => is_routed_to(steps, session, site) && wants_restart(want),
+    match told.last_want(session) {
+        Some(want) => is_routed_to(told, session, site) && wants_restart(want),
         None => false,
     }
 }

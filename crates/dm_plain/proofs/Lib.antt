@@ -2,3 +2,4 @@ pub mod Routings
 pub mod Finding
 pub mod Entries
 pub mod KeptPlacings
+pub mod Settling

@@ -1,13 +1,14 @@
 -- What is read of the latest Route is the latest of what is read of each.
 use Rattle.std.proofs.Common.{◌≡◌, ℕ, List, [], ◌∷◌, Option, Some, None, refl, ap, ◌∙◌}
-use Rattle.std.specs.Prelude.{option_map, is_some}
+use Rattle.std.specs.Prelude.{option_map}
 use Rattle.std.specs.Option.{option_or}
 use Rattle.dm_event.specs.declared.step.Step.{Step}
 use Rattle.dm_event.specs.declared.step.TxnId.{TxnId}
-use Rattle.dm_model.specs.Attempts.{Routing, last_routing, routing}
+use Rattle.dm_model.specs.Attempts.{last_routing, routing}
 use Rattle.dm_model.specs.Words.{latest}
-use Rattle.dm_plain.specs.Routings.{without_want, routing_by, wanted_by, want_of}
+use Rattle.dm_plain.specs.Routings.{routing_by, wanted_by, want_of}
 use Rattle.dm_steps.specs.Adding.{routed_by}
+use Rattle.dm_told.specs.Routings.{without_want}
 
 map_or : {A B : Type 0} (f : A → B) (a b : Option A) → option_or (option_map f a) (option_map f b) ≡ option_map f (option_or a b)
 map_or f None b = refl
@@ -28,7 +29,3 @@ routed_last c past = latest_map (λ r. r.txn) _ past
 
 pub want_last : (t : TxnId) (past : List Step) → latest (want_of t) past ≡ option_map (λ r. r.want) (routing t past)
 want_last t past = latest_map (λ r. r.want) _ past
-
-pub some_routing : (o : Option Routing) → is_some (option_map without_want o) ≡ is_some o
-some_routing None = refl
-some_routing (Some r) = refl

@@ -1,15 +1,12 @@
--- What code keeps of a Route.
+-- What code keeps of a Route, step by step.
 use Rattle.std.specs.Prelude.{ℕ, ◌==◌, Option, option_map}
 use Rattle.dm_event.specs.Txns.{same_txn}
 use Rattle.dm_event.specs.declared.step.Step.{Step}
 use Rattle.dm_event.specs.declared.step.TxnId.{TxnId}
 use Rattle.dm_event.specs.declared.step.Want.{Want}
-use Rattle.dm_model.specs.Attempts.{Routing, routing_of}
-use Rattle.dm_plain.specs.declared.attempts.Routing.{Routing as Kept}
-
--- the Route without what it wants
-abbrev pub without_want : Routing → Kept
-without_want r = record { txn = r.txn; min = r.min; site = r.site; choice = r.choice }
+use Rattle.dm_model.specs.Attempts.{routing_of}
+use Rattle.dm_told.specs.Routings.{without_want}
+use Rattle.dm_told.specs.declared.routing.Routing.{Routing as Kept}
 
 -- what the step says, if it is a Route of the session
 abbrev pub routing_by : ℕ → Step → Option Kept

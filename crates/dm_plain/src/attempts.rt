@@ -1,24 +1,16 @@
 //! How the items of the sessions stand.
 
-ghost use Rattle.std.specs.Prelude.{◌≡◌, ◌==◌, ◌≤◌, length, reverse, option_map, option_copied, is_some, false};
-ghost use Rattle.std.specs.Option.{option_map_or};
+ghost use Rattle.std.specs.Prelude.{◌≡◌, ◌==◌, ◌≤◌, length, reverse, option_map, option_copied};
 ghost use Rattle.dm_event.specs.Txns.{same_txn};
 ghost use Rattle.dm_event.specs.declared.step.TxnId.{TxnId};
-ghost use Rattle.dm_model.specs.Attempts.{is_reply, replies, is_route, routes, last_routing, routing, wanted_keys, declared, state_by, dropped_at, dropped_by, state, attempt, is_routed, wants_txn, routed, routed_txn};
+ghost use Rattle.dm_model.specs.Attempts.{is_reply, replies, is_route, routes, last_routing, routing, wanted_keys, declared, state_by, dropped_at, dropped_by, state, attempt};
 ghost use Rattle.dm_model.specs.Words.{since};
-ghost use Rattle.dm_plain.specs.Routings.{without_want, routing_by, wanted_by, want_of};
+ghost use Rattle.dm_plain.specs.Routings.{routing_by, wanted_by, want_of};
 ghost use Rattle.dm_steps.specs.Adding.{routed_by};
+ghost use Rattle.dm_told.specs.Routings.{without_want};
 
-use dm_event::{Attempt, AttemptState, Choice, Key, Pending, SiteNo, Step, TxnId, Vector, Want};
-
-/// A Route without what it wants.
-#[derive(Clone, Copy, Debug)]
-pub struct Routing {
-    pub txn: TxnId,
-    pub min: Vector,
-    pub site: SiteNo,
-    pub choice: Choice,
-}
+use dm_event::{Attempt, AttemptState, Key, Pending, SiteNo, Step, TxnId, Want};
+use dm_told::Routing;
 
 fn is_reply(step: &Step, session: u32) -> bool
     ensures { result ≡ is_reply session step.now }
@@ -29,7 +21,7 @@ fn is_reply(step: &Step, session: u32) -> bool
     }
 }
 
-pub fn is_route(step: &Step, session: u32) -> bool
+pub(crate) fn is_route(step: &Step, session: u32) -> bool
     ensures { result ≡ is_route session step.now }
 {
     match step {
@@ -224,7 +216,7 @@ fn dropped_by(step: &Step, before: AttemptState) -> AttemptState
 
 /// The state of the session's current item.
 #[tactic(auto, using(dm_steps::proofs::Past::past_more))]
-pub fn state(steps: &[Step], session: u32) -> AttemptState
+fn state(steps: &[Step], session: u32) -> AttemptState
     ensures { result ≡ state session (reverse steps.now) }
 {
     let mut now = AttemptState::Unrouted;
@@ -266,58 +258,5 @@ pub fn attempt(steps: &[Step], session: u32) -> Attempt
     Attempt {
         txn: current_txn(steps, session),
         state: state(steps, session),
-    }
-}
-
-pub fn is_routed(state: AttemptState) -> bool
-    ensures { result ≡ is_routed state }
-{
-    match state {
-        AttemptState::Routed { .. } => true,
-        _ => false,
-    }
-}
-
-fn wants_txn(want: Option<&Want>) -> bool
-    ensures { result ≡ option_map_or wants_txn (option_copied want.entry) false }
-{
-    match want {
-        Some(Want::Txn(_)) => true,
-        _ => false,
-    }
-}
-
-/// The attempt's Route, where its session stands routed by it.
-pub fn routed(steps: &[Step], txn: TxnId) -> Option<Routing>
-    ensures { result ≡ option_map without_want (routed txn (reverse steps.now)) }
-{
-    let routing = last_routing(steps, txn.session)?;
-    if is_routed(state(steps, txn.session)) && txn.same(&routing.txn) {
-        Some(routing)
-    } else {
-        None
-    }
-}
-
-/// Whether the attempt's session stands routed by it.
-#[tactic(auto, using(crate::proofs::Routings::some_routing))]
-pub fn stands_routed(steps: &[Step], txn: TxnId) -> bool
-    ensures { result ≡ is_some (routed txn (reverse steps.now)) }
-{
-    routed(steps, txn).is_some()
-}
-
-/// The attempt's Route, where its session stands routed by it for a transaction.
-pub fn routed_txn(steps: &[Step], txn: TxnId) -> Option<Routing>
-    ensures { result ≡ option_map without_want (routed_txn txn (reverse steps.now)) }
-{
-    let routing = last_routing(steps, txn.session)?;
-    if is_routed(state(steps, txn.session))
-        && txn.same(&routing.txn)
-        && wants_txn(last_want(steps, txn.session))
-    {
-        Some(routing)
-    } else {
-        None
     }
 }

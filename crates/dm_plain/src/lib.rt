@@ -9,17 +9,16 @@ mod placings;
 mod progress;
 mod running;
 mod sessions;
+mod since;
 mod values;
 
 pub use acts::{entry_at, entry_count, entry_of};
-pub use attempts::{
-    Routing, attempt, declared, is_route, is_routed, last_routing, last_want, replies, routed,
-    routed_txn, routes, stands_routed, state,
-};
+pub use attempts::{attempt, declared, last_routing, last_want, replies, routes};
 pub use doubts::{is_down, pending_at};
 pub use floors::{entry_count_with_kept, floor, floor_with_kept, unclosed_with_kept};
-pub use placings::{may_begin_now, placing};
-pub use progress::{full, is_restart, reached, site_vector};
-pub use running::{begin_vector, has_part, holder, run_site, runner, runs};
+pub use placings::placing;
+pub use progress::{full, reached, site_vector};
+pub use running::{begin_vector, holder, run_site, runner};
 pub use sessions::session_vector;
-pub use values::{Reading, value};
+pub use since::{last_settled, restarted_since, stood_settled};
+pub use values::value;

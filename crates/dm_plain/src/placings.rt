@@ -1,7 +1,7 @@
 //! Where each partition is mastered, and how far its hand-over has come.
 
 ghost use Rattle.std.specs.Prelude.{◌≡◌, ◌<◌, ◌^◌, length, reverse, option_copied};
-ghost use Rattle.dm_model.specs.Placings.{asked, settled, placed_by, placing, may_begin_now};
+ghost use Rattle.dm_model.specs.Placings.{asked, settled, placed_by, placing};
 ghost use Rattle.dm_plain.specs.Adding.{kept_placing};
 
 use crate::doubts::pending_at;
@@ -113,13 +113,4 @@ pub fn placing(schema: &Schema, steps: &[Step], part: Part) -> Placing
         now = placed_by(&steps[i], &steps[..i], part, now);
     }
     now
-}
-
-pub fn may_begin_now(now: Placing, site: SiteNo) -> bool
-    ensures { result ≡ may_begin_now now site }
-{
-    match now {
-        Placing::Settled { site: at, .. } | Placing::Granted { site: at, .. } => at == site,
-        Placing::Asked { .. } | Placing::Between { .. } => false,
-    }
 }

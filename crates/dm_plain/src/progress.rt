@@ -22,7 +22,7 @@ fn restart_vector(step: &Step, site: SiteNo) -> Option<Vector>
     }
 }
 
-pub fn is_restart(step: &Step, site: SiteNo) -> bool
+pub(crate) fn is_restart(step: &Step, site: SiteNo) -> bool
     ensures { result ≡ is_restart site step.now }
 {
     match step {

@@ -1,16 +1,15 @@
 //! Which attempts run at which site, and from which vector.
 
-ghost use Rattle.std.specs.Prelude.{◌≡◌, ◌==◌, ◌/◌, reverse};
-ghost use Rattle.std.specs.List.{list_any};
+ghost use Rattle.std.specs.Prelude.{◌≡◌, ◌==◌, reverse};
 ghost use Rattle.dm_event.specs.Txns.{same_txn};
 ghost use Rattle.dm_model.specs.Allowed.{common_key, holder, runner};
-ghost use Rattle.dm_model.specs.Choices.{parts_in_order};
 ghost use Rattle.dm_model.specs.Runs.{runs_after, runs, begun_at, run_site, begin_of, begin_vector, last_begin};
 ghost use Rattle.dm_model.specs.Tests.{is_among};
 ghost use Rattle.dm_plain.specs.Adding.{begun_holder, begun_runner};
 
 use crate::attempts::declared;
 use dm_event::{Key, Part, Schema, SiteNo, Step, TxnId, Vector};
+use dm_told::has_part;
 
 /// Whether the step begins or ends a run of the attempt at the site.
 fn runs_after(step: &Step, site: SiteNo, attempt: TxnId) -> Option<bool>
@@ -27,7 +26,7 @@ fn runs_after(step: &Step, site: SiteNo, attempt: TxnId) -> Option<bool>
 
 /// Whether the attempt runs at the site.
 #[tactic(auto, using(dm_steps::proofs::Past::past_more))]
-pub fn runs(steps: &[Step], site: SiteNo, txn: TxnId) -> bool
+fn runs(steps: &[Step], site: SiteNo, txn: TxnId) -> bool
     ensures { result ≡ runs site txn (reverse steps.now) }
 {
     let mut last = None;
@@ -142,26 +141,6 @@ pub fn holder(steps: &[Step], site: SiteNo, keys: &[Key]) -> Option<(TxnId, Key)
         }
     }
     None
-}
-
-fn is_of(schema: &Schema, key: Key, part: Part) -> bool
-    ensures { result ≡ ((key / schema.now.width) == part) }
-{
-    key / schema.width() == u32::from(part)
-}
-
-fn is_any_of(schema: &Schema, keys: &[Key], part: Part) -> bool
-    ensures { result ≡ list_any (λ key. (key / schema.now.width) == part) keys.now }
-{
-    keys.iter().any(|key| is_of(schema, *key, part))
-}
-
-/// Whether one of the keys is of the partition.
-#[tactic(auto, using(dm_steps::proofs::Finding::any_part))]
-pub fn has_part(schema: &Schema, keys: &[Key], part: Part) -> bool
-    ensures { result ≡ is_among (parts_in_order schema.now keys.now) part }
-{
-    is_any_of(schema, keys, part)
 }
 
 /// The attempt that the step began at the site, where it runs and declares a key of the partition.

@@ -6,24 +6,8 @@ ghost use Rattle.dm_model.specs.Values.{newest, value};
 ghost use Rattle.dm_steps.specs.Adding.{written_by};
 
 use crate::acts::entry_of;
-use dm_body::{View, written};
+use dm_body::written;
 use dm_event::{Entry, Key, Schema, Step, Value, Vector};
-
-/// The values of the keys at a vector.
-#[derive(Drop)]
-pub struct Reading<'a> {
-    pub schema: &'a Schema,
-    pub steps: &'a [Step],
-    pub at: &'a Vector,
-}
-
-impl View for Reading<'_> {
-    ghost values = { λ r key. value r.schema.now (reverse r.steps.now) key r.at.now };
-
-    fn read(&mut self, key: Key) -> Value {
-        value(self.schema, self.steps, key, self.at)
-    }
-}
 
 /// What the last writer of the key inside the vector wrote, else the key's opening value.
 pub fn value(schema: &Schema, steps: &[Step], key: Key, at: &Vector) -> Value

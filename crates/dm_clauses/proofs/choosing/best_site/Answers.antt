@@ -1,5 +1,5 @@
 use Rattle.std.proofs.Common.{◌≡◌, ◌-◌, ◌<◌, ◌≤◌, ℕ, zero, suc, List, ◌∷◌, ap, sym, ◌∙◌, refl, arith, length, take, get_or, true}
-use Rattle.std.specs.Prelude.{reverse, [], slice_index}
+use Rattle.std.specs.Prelude.{[], slice_index}
 use Rattle.std.specs.List.{list_all}
 use Rattle.dm_event.specs.Layout.{Layout, is_between}
 use Rattle.dm_event.specs.declared.step.Step.{Step}
@@ -39,8 +39,8 @@ homes_fit layout past hs n s h m e f few g each k d l =
     (omega (arith, same, at, one.0), omega (arith, same, at, one.1, g))
 
 pub choose-requires-clause-components : goal.choose-requires-clause-components
-choose-requires-clause-components c k d l =
-    let sites = c.args.schema.now.sites in
+choose-requires-clause-components g c k d l =
+    let sites = (g.T.Told.layout c.args.told.now).sites in
     let n = c.sites.result in
     let vs = c.vectors-vectors.result in
     let long : length (take n vs) ≡ n = front n 8 vs c.vectors-vectors.ensures.long (c.sites.ensures.limits.1) in
@@ -50,33 +50,33 @@ choose-requires-clause-components c k d l =
     let place : get_or vs k d ≡ get_or vs k [] = get_any vs k d [] (omega (arith, few, c.sites.ensures.limits.1, c.vectors-vectors.ensures.long)) in
     let shift : k ≡ suc k - 1 = omega arith in
     ap (λ (v : List ℕ). length v) (here ∙ place ∙ ap (λ (i : ℕ). get_or vs i []) shift ∙ own)
-    ∙ long_by sites (λ j. reached (suc k) j (reverse c.args.steps.now)) ∙ sym c.sites.ensures.same ∙ sym long
+    ∙ long_by sites (λ j. reached (suc k) j (g.T.Told.past c.args.told.now)) ∙ sym c.sites.ensures.same ∙ sym long
 
 pub choose-requires-clause-homes : goal.choose-requires-clause-homes
-choose-requires-clause-homes c =
-    homes_fit c.args.schema.now (reverse c.args.steps.now) c.homes-homes.result c.parts.result (length (take c.sites.result c.vectors-vectors.result))
-    c.requires.legal c.parts.ensures.masters
+choose-requires-clause-homes g c =
+    homes_fit (g.T.Told.layout c.args.told.now) (g.T.Told.past c.args.told.now) c.homes-homes.result c.parts.result (length (take c.sites.result c.vectors-vectors.result))
+    c.is_legal.ensures.legal c.parts.ensures.masters
     c.homes-homes.ensures.long c.parts.ensures.same (c.parts.ensures.limits.1)
     (front c.sites.result 8 c.vectors-vectors.result c.vectors-vectors.ensures.long (c.sites.ensures.limits.1) ∙ c.sites.ensures.same)
     c.homes-homes.ensures.each
 
 pub choose-requires-clause-wanted_homes : goal.choose-requires-clause-wanted_homes
-choose-requires-clause-wanted_homes c p t =
+choose-requires-clause-wanted_homes g c p t =
     let long : length (take c.parts.result c.homes-homes.result) ≡ c.parts.result =
     front c.parts.result 256 c.homes-homes.result c.homes-homes.ensures.long (c.parts.ensures.limits.1) in
-    let below = c.parts_of.ensures.within p t in
+    let below = c.wanted_parts.ensures.within p t in
     omega (arith, below, long, c.parts.ensures.same)
 
 pub returns : goal.returns
-returns c =
-    let layout = c.args.schema.now in
-    let past = reverse c.args.steps.now in
+returns g c =
+    let layout = g.T.Told.layout c.args.told.now in
+    let past = g.T.Told.past c.args.told.now in
     let hs = take c.parts.result c.homes-homes.result in
     let vs = take c.sites.result c.vectors-vectors.result in
     let long : length hs ≡ c.parts.result = front c.parts.result 256 c.homes-homes.result c.homes-homes.ensures.long (c.parts.ensures.limits.1) in
     let most : length vs ≡ c.sites.result = front c.sites.result 8 c.vectors-vectors.result c.vectors-vectors.ensures.long (c.sites.ensures.limits.1) in
-    let tells : Tells layout past c.args.window.now hs vs = record {
-      sets = c.requires.window;
+    let tells : Tells layout past c.window.result.now hs vs = record {
+      sets = c.window.ensures;
       parts = long ∙ c.parts.ensures.same;
       home_of = λ p l. get_or-take c.parts.result c.homes-homes.result p 0 (omega (arith, l, c.parts.ensures.same)) ∙ c.homes-homes.ensures.each p l;
       sites = most ∙ c.sites.ensures.same;
@@ -84,11 +84,11 @@ returns c =
           ∙ c.vectors-vectors.ensures.each site lo hi;
     } in
     c.choose.ensures.due
-    ∙ ap (λ (w : Weights). choice_in w c.args.window.now hs vs c.parts_of.result) c.weights.ensures
-    ∙ c.choices_due.ensures.choice layout past c.args.window.now hs vs c.parts_of.result c.requires.legal tells
-    (homes_fit layout past c.homes-homes.result c.parts.result (length vs) c.requires.legal c.parts.ensures.masters c.homes-homes.ensures.long
+    ∙ ap (λ (w : Weights). choice_in w c.window.result.now hs vs c.wanted_parts.result) c.weights.ensures
+    ∙ c.choices_due.ensures.choice layout past c.window.result.now hs vs c.wanted_parts.result c.is_legal.ensures.legal tells
+    (homes_fit layout past c.homes-homes.result c.parts.result (length vs) c.is_legal.ensures.legal c.parts.ensures.masters c.homes-homes.ensures.long
     c.parts.ensures.same (c.parts.ensures.limits.1)
     (most ∙ c.sites.ensures.same) c.homes-homes.ensures.each)
-    (λ p t. let below = c.parts_of.ensures.within p t in omega (arith, below, long, c.parts.ensures.same))
+    (λ p t. let below = c.wanted_parts.ensures.within p t in omega (arith, below, long, c.parts.ensures.same))
     (omega (arith, c.sites.ensures.same, c.sites.ensures.limits.0))
-    ∙ ap (λ (wanted : List ℕ). choose layout past wanted) c.parts_of.ensures.exact
+    ∙ ap (λ (wanted : List ℕ). choose layout past wanted) c.wanted_parts.ensures.exact

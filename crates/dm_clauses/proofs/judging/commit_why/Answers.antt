@@ -1,19 +1,16 @@
 use Rattle.std.proofs.Common.{ℕ, List, Option, ap, sym, ◌∙◌, arith}
-use Rattle.std.specs.Prelude.{reverse, is_some}
+use Rattle.std.specs.Prelude.{is_some}
 use Rattle.dm_model.specs.Bodies.{ran_at}
 use Rattle.dm_steps.proofs.Legality.{runner_began}
 use Rattle.dm_clauses.proofs.judging.commit_why.Goals as goal
 
-pub overflow_add-reads : goal.overflow_add-reads
-overflow_add-reads c = omega (arith, c.entry_count.ensures.few, c.entry_count.ensures.memory)
-
 pub commit_refusal-requires-clause-begun : goal.commit_refusal-requires-clause-begun
-commit_refusal-requires-clause-begun c h =
+commit_refusal-requires-clause-begun g c h =
     ap (λ (o : Option (List ℕ)). is_some o) c.begin_vector.ensures
-    ∙ runner_began c.args.schema.now (reverse c.args.steps.now) c.requires c.args.entry.now.txn (sym (ap (λ (o : Option ℕ). is_some o) c.run_site.ensures) ∙ h)
+    ∙ runner_began (g.T.Told.layout c.args.told.now) (g.T.Told.past c.args.told.now) c.is_legal.ensures.legal c.args.entry.now.txn (sym (ap (λ (o : Option ℕ). is_some o) c.run_site-runs.ensures) ∙ h)
 
 pub returns : goal.returns
-returns c =
-    rw (c.run_site.ensures, c.entry_count.ensures.exact, c.begin_vector.ensures, c.undeclared_in.ensures, c.declared.ensures, c.as_slice-ops.ensures) at
-    (c.commit_refusal.ensures (ran_at c.args.schema.now (reverse c.args.steps.now) c.args.entry.now.begin c.args.entry.now.ops)
+returns g c =
+    rw (c.run_site-runs.ensures, c.entry_count.ensures.exact, c.begin_vector.ensures, c.undeclared_in.ensures, c.declared.ensures, c.as_slice-ops.ensures) at
+    (c.commit_refusal.ensures (ran_at (g.T.Told.layout c.args.told.now) (g.T.Told.past c.args.told.now) c.args.entry.now.begin c.args.entry.now.ops)
     (rw (c.as_slice-ops.ensures, c.as_slice.ensures, c.as_slice-2.ensures) at c.body_fits.ensures.fits))
