@@ -2,7 +2,7 @@
 
 ghost use Rattle.std.specs.Prelude.{◌*◌, pos};
 
-use crate::{OpResult, Overlay, View, first_undeclared, run};
+use dm_body::{OpResult, Overlay, View, first_undeclared, run};
 use dm_event::{Body, Key, Keys, Op, Ops, Pair, Value};
 use std::test::Fail;
 

@@ -1,7 +1,9 @@
-use crate::{
+//! Words and numbers, read and shown.
+
+use dm_event::{Pair, Pairs, TxnId, Vector};
+use dm_text::{
     Words, lines_of, number, put_number, put_pairs, put_signed, put_txn, put_vector, signed, words,
 };
-use dm_event::{Pair, Pairs, TxnId, Vector};
 use std::test::Fail;
 
 #[test]

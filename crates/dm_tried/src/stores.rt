@@ -2,8 +2,8 @@
 
 ghost use Rattle.std.specs.Prelude.{◌≡◌, IfOk, length, replicate};
 
-use crate::{Past, Store};
-use dm_event::{Key, Pair, Pairs, Schema, SiteNo, Value, ValueRange, Vector, Weights};
+use dm_event::{Key, Pair, Pairs, Schema, SiteNo, ValueRange, Vector, Weights};
+use dm_store::{Past, Store};
 use std::alloc::Global;
 use std::test::Fail;
 

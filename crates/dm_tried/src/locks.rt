@@ -1,15 +1,10 @@
 //! Tables whose answers are known.
 
 ghost use Rattle.std.specs.Prelude.{◌≡◌, IsSome, IsTrue};
-ghost use Rattle.std.specs.List.{list_any};
-ghost use Rattle.dm_model.specs.Words.{count_of};
-ghost use Rattle.dm_locks.specs.Claims.{claim_of, is_of_session};
-ghost use Rattle.dm_locks.specs.Locks.{everyone};
+ghost use Rattle.dm_locks.specs.Claims.{claim_of};
 
-use super::has_claim;
-use crate::claim::Claim;
-use crate::{LockAnswer, LockTable};
 use dm_event::{Key, Keys, TxnId};
+use dm_locks::{LockAnswer, LockTable};
 use std::alloc::Global;
 use std::process::Abort;
 use std::test::Fail;
@@ -35,26 +30,14 @@ fn waits(by: u32, key: Key) -> LockAnswer {
     LockAnswer::Waits { by: txn(by), key }
 }
 
-fn is_in(claims: &[Claim], session: u32) -> bool
-    ensures { result ≡ list_any (is_of_session session) claims.now }
-{
-    claims.iter().any(|claim| claim.txn.session == session)
-}
-
-/// Whether the session neither holds nor waits.
-fn has_no_claim(table: &LockTable, session: u32) -> bool
-    ensures { IsTrue result → count_of (is_of_session session) (everyone table.now) ≡ 0 }
-{
-    let holds = is_in(&table.holders, session);
-    let waits = is_in(&table.waiters, session);
-    !holds && !waits
-}
-
 /// Whether the transaction waits.
 fn is_waiting(table: &LockTable, txn: TxnId) -> bool
     ensures { IsTrue result → IsSome (claim_of txn table.now.waiters) }
 {
-    has_claim(&table.waiters, txn)
+    match table.waiter(txn.session) {
+        Some(other) => other.same(&txn),
+        None => false,
+    }
 }
 
 /// Asks for the session, which is to have no claim.
@@ -67,7 +50,7 @@ fn ask(
 ) -> Result<LockAnswer, Fail> {
     let keys = Keys::new(Vec::from_slice(alloc, keys)?).ok_or("a key stands twice")?;
     assert!(rt; 1 <= session && session <= 32);
-    let free = has_no_claim(table, session);
+    let free = table.may_ask(session);
     assert!(rt; free);
     Ok(table.ask(txn(session), keys))
 }
@@ -114,59 +97,8 @@ fn thirty_two_sessions_in_a_chain(rt: HostRuntime) -> Result<(), Fail> {
         table.give_back(txn(session - 1));
         assert_eq!(rt; poll(&rt, &mut table, session), LockAnswer::Got);
     }
-    Ok(())
-}
-
-#[test]
-fn a_waiter_that_gives_back_is_in_nobodys_way(rt: HostRuntime) -> Result<(), Fail> {
-    let alloc = rt.alloc();
-    let mut table = LockTable::new(alloc)?;
-    assert_eq!(rt; ask(&rt, alloc, &mut table, A, &[3])?, LockAnswer::Got);
-    assert_eq!(rt; ask(&rt, alloc, &mut table, B, &[3, 4])?, waits(A, 3));
-    assert_eq!(rt; ask(&rt, alloc, &mut table, C, &[4])?, waits(B, 4));
-    table.give_back(txn(B));
-    assert_eq!(rt; table.waiter(B), None);
-    assert!(rt; table.holds(txn(A)));
-    assert_eq!(rt; poll(&rt, &mut table, C), LockAnswer::Got);
-    Ok(())
-}
-
-#[test]
-fn disjoint_sets_all_hold(rt: HostRuntime) -> Result<(), Fail> {
-    let alloc = rt.alloc();
-    let mut table = LockTable::new(alloc)?;
-    for session in 1..33 {
-        let answer = ask(&rt, alloc, &mut table, session, &[session, 32 + session])?;
-        assert_eq!(rt; answer, LockAnswer::Got);
-    }
-    for session in 1..33 {
-        assert!(rt; table.holds(txn(session)));
-        assert_eq!(rt; table.waiter(session), None);
-    }
-    Ok(())
-}
-
-#[test]
-fn no_keys_are_in_nobodys_way(rt: HostRuntime) -> Result<(), Fail> {
-    let alloc = rt.alloc();
-    let mut table = LockTable::new(alloc)?;
-    assert_eq!(rt; ask(&rt, alloc, &mut table, A, &[])?, LockAnswer::Got);
-    assert_eq!(rt; ask(&rt, alloc, &mut table, B, &[1, 2])?, LockAnswer::Got);
-    assert_eq!(rt; ask(&rt, alloc, &mut table, C, &[])?, LockAnswer::Got);
-    assert!(rt; table.holds(txn(A)) && table.holds(txn(B)) && table.holds(txn(C)));
-    Ok(())
-}
-
-#[test]
-fn a_cleared_table_is_as_a_new_one(rt: HostRuntime) -> Result<(), Fail> {
-    let alloc = rt.alloc();
-    let mut table = LockTable::new(alloc)?;
-    assert_eq!(rt; ask(&rt, alloc, &mut table, A, &[3])?, LockAnswer::Got);
-    assert_eq!(rt; ask(&rt, alloc, &mut table, B, &[3])?, waits(A, 3));
     table.clear();
-    assert!(rt; !table.holds(txn(A)));
-    assert_eq!(rt; table.waiter(B), None);
-    assert_eq!(rt; ask(&rt, alloc, &mut table, B, &[3])?, LockAnswer::Got);
-    assert_eq!(rt; ask(&rt, alloc, &mut table, A, &[3])?, waits(B, 3));
+    assert_eq!(rt; ask(&rt, alloc, &mut table, A, &[])?, LockAnswer::Got);
+    assert_eq!(rt; ask(&rt, alloc, &mut table, 32, &[33])?, LockAnswer::Got);
     Ok(())
 }

@@ -1,6 +1,7 @@
-use crate::command::{Ran, quiet};
-use crate::status::{Status, status_text};
+//! What a command writes, and the status in which it ends.
+
 use dm_disk::{MemSink, MemSource};
+use dm_top::{Ran, Status, quiet, status_text};
 use std::alloc::Global;
 use std::test::Fail;
 

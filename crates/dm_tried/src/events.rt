@@ -1,4 +1,6 @@
-use crate::{
+//! Schemas, keys and steps, and their copies.
+
+use dm_event::{
     Entry, Keys, Op, Ops, Pair, Pairs, Pending, Schema, Step, TxnId, ValueRange, Vector, Weights,
 };
 use std::alloc::Global;

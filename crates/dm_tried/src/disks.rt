@@ -1,4 +1,6 @@
-use crate::{
+//! Sources and sinks, in memory and of the host.
+
+use dm_disk::{
     Fetched, FileSource, MemSink, MemSource, Put, Sink, Source, StdoutSink, Written, write_all,
 };
 use std::alloc::Global;
