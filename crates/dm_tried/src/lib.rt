@@ -13,3 +13,5 @@ mod locks;
 mod stores;
 #[cfg(test)]
 mod texts;
+#[cfg(test)]
+mod windows;

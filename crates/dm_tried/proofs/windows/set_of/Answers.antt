@@ -5,8 +5,8 @@ use Rattle.dm_event.proofs.Bits.{with_below, with_same}
 use Rattle.dm_event.specs.Parts.{with_part}
 use Rattle.dm_model.specs.Tests.{is_among}
 use Rattle.dm_placement.specs.Scored.{HaveHomes}
-use Rattle.dm_placement.proofs.tests.set_of.Goals as goal
-use Rattle.dm_placement.proofs.tests.set_of.Goals.{then-part-bound, else-part-bound}
+use Rattle.dm_tried.proofs.windows.set_of.Goals as goal
+use Rattle.dm_tried.proofs.windows.set_of.Goals.{then-part-bound, else-part-bound}
 
 with_above : (p x : ℕ) (xs : List ℕ) → p < x → with_part p (x ∷ xs) ≡ p ∷ x ∷ xs
 with_above p x xs h =

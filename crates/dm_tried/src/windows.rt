@@ -3,8 +3,8 @@
 ghost use Rattle.std.specs.Prelude.{◌≡◌, ◌≤◌, All, IsTrue, length};
 ghost use Rattle.dm_placement.specs.Scored.{AreSites, HaveHomes};
 
-use crate::{Window, choose, scores};
 use dm_event::{Part, PartSet, SiteNo, Vector, Weights};
+use dm_placement::{Window, choose, scores};
 use std::alloc::Global;
 use std::process::Abort;
 use std::test::Fail;
