@@ -10,8 +10,6 @@ mod fitting;
 mod fold;
 mod law;
 mod overlay;
-#[cfg(test)]
-mod tests;
 mod view;
 mod writes;
 

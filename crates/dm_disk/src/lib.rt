@@ -4,8 +4,6 @@
 mod host;
 mod memory;
 mod outside;
-#[cfg(test)]
-mod tests;
 mod writing;
 
 pub use host::{FileSource, StdoutSink};

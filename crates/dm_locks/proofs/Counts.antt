@@ -1,6 +1,7 @@
 -- Counts of what passes a test, what holds of each, and how many there can be.
-use Rattle.std.proofs.Common.{ℕ, zero, suc, ◌+◌, ◌<◌, ◌≤◌, ◌≡◌, Bool, true, false, ◌==◌, cond, List, [], ◌∷◌, ◌++◌, length, refl, sym, ap, ◌∙◌, arith, inl, inr}
+use Rattle.std.proofs.Common.{ℕ, zero, suc, ◌+◌, ◌<◌, ◌≤◌, ◌≡◌, Bool, true, false, ◌==◌, ◌||◌, not, cond, List, [], ◌∷◌, ◌++◌, length, refl, sym, ap, ◌∙◌, arith, inl, inr}
 use Rattle.std.proofs.lemmas.Bool.{eq-eqb, ne_eqb, cases_eq, or_parts}
+use Rattle.std.proofs.lemmas.List.Folds.{list_any-append}
 use Rattle.std.specs.List.{AllByRecursion as Each, filter, list_any}
 use Rattle.dm_model.specs.Words.{count_of}
 
@@ -122,3 +123,22 @@ total_few f (suc n) xs h = let here = h (suc n) in let rest = total_few f n xs h
 -- numbers from 1 to n, none twice, are at most n
 pub few : {X : Type 0} (f : X → ℕ) (n : ℕ) (xs : List X) → Each (λ x. (1 ≤ f x) × (f x ≤ n)) xs → ((k : ℕ) → count_of (λ x. f x == k) xs ≤ 1) → length xs ≤ n
 few f n xs h k = let e = total_length f n xs h in let l = total_few f n xs k in omega arith
+
+-- none passes where their count is 0
+pub none_is_no_count : {X : Type 0} (p : X → Bool) (xs : List X) → not (list_any p xs) ≡ (count_of p xs == 0)
+none_is_no_count p [] = refl
+none_is_no_count p (x ∷ xs) = by_test (p x) (none_is_no_count p xs)
+  where
+    by_test : (b : Bool) → not (list_any p xs) ≡ (count_of p xs == 0) → not (b || list_any p xs) ≡ (cond b (suc (count_of p xs)) (count_of p xs) == 0)
+    by_test true h = sym (ne_eqb (suc (count_of p xs)) 0 (λ e. omega (arith, e)))
+    by_test false h = h
+
+-- the same of two lists, tested one after the other
+pub none_of_both : {X : Type 0} (p : X → Bool) (xs ys : List X) (a : Bool) → list_any p xs ≡ a
+    → cond a false (not (list_any p ys)) ≡ (count_of p (xs ++ ys) == 0)
+none_of_both p xs ys a e = by_first a ∙ ap (λ (b : Bool). not (b || list_any p ys)) (sym e) ∙ ap (λ (b : Bool). not b) (sym (list_any-append p xs ys))
+    ∙ none_is_no_count p (xs ++ ys)
+  where
+    by_first : (a : Bool) → cond a false (not (list_any p ys)) ≡ not (a || list_any p ys)
+    by_first true = refl
+    by_first false = refl

@@ -1,6 +1,6 @@
 //! The table: its two lists, and the calls on them.
 
-ghost use Rattle.std.specs.Prelude.{◌≡◌, ◌≤◌, ◌<◌, ◌++◌, ◌∷◌, [], IfOk, IsSome, option_map, find, length, vec_len, vec_capacity};
+ghost use Rattle.std.specs.Prelude.{◌≡◌, ◌==◌, ◌≤◌, ◌<◌, ◌++◌, ◌∷◌, [], IfOk, IsSome, option_map, find, length, vec_len, vec_capacity};
 ghost use Rattle.std.specs.List.{list_any, position_or_len};
 ghost use Rattle.dm_model.specs.Words.{count_of};
 ghost use Rattle.dm_locks.specs.Claims.{answer, claim_of, is_of, is_of_session, without};
@@ -10,9 +10,6 @@ use crate::claim::{Claim, answer_beside};
 use dm_event::{Key, Keys, MAX_SESSIONS, NoMemory, TxnId};
 use std::alloc::Global;
 use std::marker::Model;
-
-#[cfg(test)]
-mod tests;
 
 /// What one who asks for keys is answered.
 #[derive(Clone, Copy, Debug, PartialEq, Eq)]
@@ -52,6 +49,13 @@ impl LockTable {
             holders: Vec::with_capacity(alloc, MAX_SESSIONS as usize)?,
             waiters: Vec::with_capacity(alloc, MAX_SESSIONS as usize)?,
         })
+    }
+
+    /// Whether the session may ask: it neither holds nor waits.
+    pub fn may_ask(&self, session: u32) -> bool
+        ensures { result ≡ (count_of (is_of_session session) (everyone self.now) == 0) }
+    {
+        !is_of_any(&self.holders, session) && !is_of_any(&self.waiters, session)
     }
 
     /// Asks for the keys: the transaction holds them from now on, or is the last waiter.
@@ -122,6 +126,13 @@ fn has_claim(claims: &[Claim], txn: TxnId) -> bool
     ensures { result ≡ list_any (is_of txn) claims.now }
 {
     claims.iter().any(|claim| claim.txn.same(&txn))
+}
+
+/// Whether one of the claims is the session's.
+fn is_of_any(claims: &[Claim], session: u32) -> bool
+    ensures { result ≡ list_any (is_of_session session) claims.now }
+{
+    claims.iter().any(|claim| claim.txn.session == session)
 }
 
 /// Where the waiter stands, and what it is answered for those ahead of it.

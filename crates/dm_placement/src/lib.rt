@@ -16,6 +16,3 @@ pub use choosing::choose;
 pub use law::choices_due;
 pub use scoring::scores;
 pub use window::Window;
-
-#[cfg(test)]
-mod tests;

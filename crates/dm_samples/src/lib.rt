@@ -1,6 +1,9 @@
-//! What is printed of steps, reasons and histories that no step file can bring about yet, beside texts that were written by hand.
+//! What is printed, beside texts that were written by hand: of steps, reasons and histories that no step file can bring about yet, and by commands
+//! that end in each status.
 #![tactic(auto)]
 
+#[cfg(test)]
+mod commands;
 #[cfg(test)]
 mod reasons;
 #[cfg(test)]

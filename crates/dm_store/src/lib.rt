@@ -8,8 +8,6 @@ mod chains;
 mod law;
 mod past;
 mod store;
-#[cfg(test)]
-mod tests;
 mod version;
 
 pub use law::reads_of_histories;

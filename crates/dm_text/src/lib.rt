@@ -6,8 +6,6 @@ mod iterating;
 mod listing;
 mod numbers;
 mod shown;
-#[cfg(test)]
-mod tests;
 
 pub use cutting::lines_of;
 pub use iterating::Words;

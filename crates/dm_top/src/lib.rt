@@ -10,6 +10,3 @@ pub use command::{Ran, quiet};
 pub use law::one_status_an_answer;
 pub use name::Name;
 pub use status::{Status, status_text};
-
-#[cfg(test)]
-mod tests;
