@@ -3,8 +3,6 @@
 
 mod index;
 mod law;
-#[cfg(test)]
-mod tests;
 
 pub use index::Index;
 pub use law::{entries_indexed, entries_stored};

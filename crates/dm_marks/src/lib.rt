@@ -5,8 +5,6 @@
 mod aim;
 mod aims;
 mod marks;
-#[cfg(test)]
-mod tests;
 
 pub use aim::Aim;
 pub use aims::Aims;

@@ -13,6 +13,3 @@ mod site;
 pub use numbers::Numbers;
 pub use session::SessionNumbers;
 pub use site::SiteNumbers;
-
-#[cfg(test)]
-mod tests;

@@ -8,6 +8,3 @@ mod replies;
 mod states;
 
 pub use states::States;
-
-#[cfg(test)]
-mod tests;

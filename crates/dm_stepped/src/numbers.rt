@@ -1,9 +1,9 @@
 //! Numbers that are worked out by hand.
 
-use crate::{Numbers, SessionNumbers, SiteNumbers};
 use dm_event::{
     Choice, Entry, Found, Ops, Pairs, Pending, Said, Schema, Step, TxnId, Vector, Want, Weights,
 };
+use dm_numbers::{Numbers, SessionNumbers, SiteNumbers};
 use std::alloc::Global;
 use std::test::Fail;
 

@@ -1,4 +1,6 @@
-use super::*;
+//! Places that are worked out by hand.
+
+use dm_index::Index;
 use std::test::Fail;
 
 #[test]

@@ -1,5 +1,7 @@
-use super::*;
+//! Attempts that run, worked out by hand.
+
 use dm_event::{Cause, Pending, Step, TxnId, Vector};
+use dm_runs::Runs;
 use std::test::Fail;
 
 fn attempt(session: u32) -> TxnId {

@@ -1,5 +1,7 @@
-use super::*;
+//! Marks and aims that are worked out by hand.
+
 use dm_event::{Choice, Found, Pending, Schema, Step, TxnId, Vector, Want, Weights};
+use dm_marks::{Aims, Marks};
 use dm_state::States;
 use std::alloc::Global;
 use std::test::Fail;

@@ -1,10 +1,10 @@
 //! States that are worked out by hand.
 
-use crate::States;
 use dm_event::{
     Attempt, AttemptState, Choice, Found, Pending, Placing, Schema, SiteNo, Step, TxnId, Vector,
     Want, Weights,
 };
+use dm_state::States;
 use std::alloc::Global;
 use std::process::Abort;
 use std::test::Fail;

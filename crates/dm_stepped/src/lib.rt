@@ -1,0 +1,13 @@
+//! What is kept of a history beside its steps, after steps that were worked out by hand.
+#![tactic(auto)]
+
+#[cfg(test)]
+mod indexes;
+#[cfg(test)]
+mod marks;
+#[cfg(test)]
+mod numbers;
+#[cfg(test)]
+mod runs;
+#[cfg(test)]
+mod states;
