@@ -1,6 +1,6 @@
 -- No step is of a site or a session that doesn't exist.
-use Rattle.std.proofs.Common.{ℕ, ◌≡◌, ◌==◌, Bool, true, false, List, Option, Some, None, refl, sym, ◌∙◌, subst}
-use Rattle.std.proofs.lemmas.Bool.{eqb-true, false≢true, and_parts}
+use Rattle.std.proofs.Common.{ℕ, ◌≡◌, ◌==◌, true, false, List, Option, Some, None, refl}
+use Rattle.std.proofs.lemmas.Bool.{and_parts}
 use Rattle.std.specs.Prelude.{IfSome}
 use Rattle.dm_event.specs.Layout.{Layout, is_site, is_session}
 use Rattle.dm_event.specs.declared.step.Entry.{Entry}
@@ -15,14 +15,8 @@ use Rattle.dm_model.specs.Legal.{LegalPast}
 use Rattle.dm_model.specs.Shape.{is_txn, is_entry, is_shaped}
 use Rattle.dm_numbers.specs.Counted.{told_site, told_session, no_site, no_session}
 use Rattle.dm_steps.proofs.Legality.{pending_shaped}
+use Rattle.dm_steps.proofs.Slots.{differs}
 use Rattle.dm_steps.specs.Pendings.{kept_of}
-
-differs : (p : ℕ → Bool) (c x : ℕ) → p c ≡ false → p x ≡ true → (x == c) ≡ false
-differs p c x none h = by (x == c) refl
-  where
-    by : (b : Bool) → (x == c) ≡ b → b ≡ false
-    by false e = refl
-    by true e = absurd (false≢true (sym none ∙ subst (λ (y : ℕ). p y ≡ true) (eqb-true x c e) h))
 
 module _ (layout : Layout) (c : ℕ) (none : is_session c ≡ false) where
   of_txn : (t : TxnId) → is_txn layout t ≡ true → (t.session == c) ≡ false

@@ -1,8 +1,8 @@
 -- A floor, what a session has seen, and its Routes after one step more are what the step tells.
-use Rattle.std.proofs.Common.{ℕ, suc, ◌+◌, ◌≤◌, ◌≡◌, ◌==◌, ◌&&◌, Bool, true, false, if◌then◌else◌, List, ◌∷◌, Option, Some, None, length, refl}
+use Rattle.std.proofs.Common.{ℕ, suc, ◌+◌, ◌≡◌, ◌==◌, Bool, true, false, if◌then◌else◌, List, ◌∷◌, Option, Some, None, length, refl}
 use Rattle.std.proofs.Common.{sym, ap, ◌∙◌, arith}
-use Rattle.std.proofs.lemmas.Bool.{eqb-true, eq-eqb, cond-true}
-use Rattle.std.specs.Prelude.{option_map, option_and_then, IfSome, nat_le}
+use Rattle.std.proofs.lemmas.Bool.{eqb-true, eq-eqb, le-leb, and_from, cond-true}
+use Rattle.std.specs.Prelude.{option_map, option_and_then, IfSome}
 use Rattle.dm_event.specs.Entries.{commit_vector}
 use Rattle.dm_event.specs.Layout.{Layout, is_between}
 use Rattle.dm_event.specs.declared.step.Entry.{Entry}
@@ -35,10 +35,7 @@ joins count u (Some v) l h = cond-true (length u == length v) _ _ (eq-eqb (lengt
 
 module _ (layout : Layout) where
   made_commit : (e : Entry) → Made layout e → told_commit e ≡ Some (commit_vector e)
-  made_commit e m = cond-true (is_between 1 (length e.begin) e.origin) _ _ (inside e.origin (length e.begin) m.one m.within)
-    where
-      inside : (a b : ℕ) → 1 ≤ a → a ≤ b → (nat_le 1 a && nat_le a b) ≡ true
-      inside a b x y = grind (arith, x, y)
+  made_commit e m = cond-true (is_between 1 (length e.begin) e.origin) _ _ (and_from _ _ (le-leb 1 e.origin m.one) (le-leb e.origin (length e.begin) m.within))
 
   -- what is told of a vector, and that it has a component for each site
   record Told (told given : Option (List ℕ)) : Type 0 where

@@ -1,8 +1,8 @@
 -- A site's vector after one step more is what the step tells.
 use Rattle.std.proofs.Common.{ℕ, suc, ◌+◌, ◌-◌, ◌^◌, ◌<◌, ◌≤◌, ◌≡◌, ◌≢◌, ◌==◌, ◌&&◌, min, Bool, true, false, if◌then◌else◌, List, ◌∷◌, ◌++◌, Option, Some, None}
 use Rattle.std.proofs.Common.{length, refl, sym, ap, ◌∙◌, arith, inl, inr}
-use Rattle.std.proofs.lemmas.Bool.{cases_eq, eqb-true, eqb-false, eq-eqb, ne_eqb, false≢true, and_parts, cond-true, cond-false}
-use Rattle.std.specs.Prelude.{option_map, option_to_list, filter_map, IfSome, nat_le}
+use Rattle.std.proofs.lemmas.Bool.{cases_eq, eqb-true, eqb-false, eq-eqb, ne_eqb, le-leb, and_parts, and_from, and_left, and_right, cond-true, cond-false}
+use Rattle.std.specs.Prelude.{option_map, option_to_list, filter_map, IfSome}
 use Rattle.dm_event.specs.Layout.{Layout, is_between}
 use Rattle.dm_event.specs.Vectors.{at, vector_by, raised}
 use Rattle.dm_event.specs.declared.step.Entry.{Entry}
@@ -29,24 +29,6 @@ use Rattle.dm_steps.specs.Adding.{of_origin}
 use Rattle.dm_steps.specs.Next.{next_count, next_refreshed, next_reached}
 use Rattle.dm_steps.specs.Pendings.{kept_of, entry_by}
 
-within : (a b : ℕ) → 1 ≤ a → a ≤ b → is_between 1 b a ≡ true
-within a b x y = by a b x y
-  where
-    by : (a b : ℕ) → 1 ≤ a → a ≤ b → (nat_le 1 a && nat_le a b) ≡ true
-    by a b x y = grind (arith, x, y)
-
-both_true : (b c : Bool) → b ≡ true → c ≡ true → (b && c) ≡ true
-both_true true c x y = y
-both_true false c x y = absurd (false≢true x)
-
-first_false : (b c : Bool) → b ≡ false → (b && c) ≡ false
-first_false false c x = refl
-first_false true c x = absurd (false≢true (sym x))
-
-second_false : (b c : Bool) → c ≡ false → (b && c) ≡ false
-second_false true c x = x
-second_false false c x = refl
-
 adds_none : (n m : ℕ) → m ≡ 0 → n + m ≡ n
 adds_none n m e = omega (arith, e)
 
@@ -59,7 +41,7 @@ module _ (count : ℕ) where
       → told_raised (vector_by count f) o n ≡ vector_by count g
   raised_by f g o n l m own same =
       let long : length (vector_by count f) ≡ count = long_by count f in
-      cond-true (is_between 1 (length (vector_by count f)) o) _ _ (within o (length (vector_by count f)) l (omega (arith, long, m)))
+      cond-true (is_between 1 (length (vector_by count f)) o) _ _ (and_from _ _ (le-leb 1 o l) (le-leb o (length (vector_by count f)) (omega (arith, long, m))))
       ∙ vector_is count (raised (vector_by count f) o n) g (long_raised (vector_by count f) o n ∙ long) (λ k a b. at_each k a b long)
     where
       at_each : (k : ℕ) → 1 ≤ k → k ≤ count → length (vector_by count f) ≡ count → at (raised (vector_by count f) o n) k ≡ g k
@@ -150,7 +132,7 @@ module _ (layout : Layout) (past : List Step) (i : ℕ) where
         | inl p ↦ (next_own (Refresh site origin) k _ p ∙ adds_none _ _ refl)
         | inr p ↦ (
             next_other (Refresh site origin) k _ p
-            ∙ cond-false ((site == i) && (origin == k)) _ _ (second_false (site == i) (origin == k) (ne_eqb origin k (λ q. n (sym q))))
+            ∙ cond-false ((site == i) && (origin == k)) _ _ (and_right (site == i) (origin == k) (ne_eqb origin k (λ q. n (sym q))))
             )
       ]
 
@@ -171,11 +153,11 @@ module _ (layout : Layout) (past : List Step) (i : ℕ) where
           ap (λ (n : ℕ). told_raised (site_vector layout.sites past i) origin n) fits
           ∙ raised_by layout.sites now (λ k. reached i k (Refresh site origin ∷ past)) origin (suc (now origin)) one top
           (reached_next i origin past (Refresh site origin) ∙ next_other (Refresh site origin) origin (now origin) ne
-          ∙ cond-true ((site == i) && (origin == origin)) _ _ (both_true (site == i) (origin == origin) f (eq-eqb origin origin refl)))
+          ∙ cond-true ((site == i) && (origin == origin)) _ _ (and_from (site == i) (origin == origin) f (eq-eqb origin origin refl)))
           (λ k n. reached_next i k past (Refresh site origin) ∙ stays ne k n)
       by false f =
           unchanged (Refresh site origin) (λ n. adds_none n _ refl)
-          (λ k n. cond-false ((site == i) && (origin == k)) _ _ (first_false (site == i) (origin == k) f))
+          (λ k n. cond-false ((site == i) && (origin == k)) _ _ (and_left (site == i) (origin == k) f))
 
   restart_told : LegalPast layout past → (site : ℕ) (vector : List ℕ) (found : Found) → Allowed layout past (Restart site vector found)
       → told_vector i (Restart site vector found) (site_vector layout.sites past i) ≡ site_vector layout.sites (Restart site vector found ∷ past) i

@@ -1,6 +1,6 @@
 -- No step is of a session or a partition that doesn't exist.
-use Rattle.std.proofs.Common.{ℕ, ◌<◌, ◌≡◌, ◌==◌, Bool, true, false, List, Option, Some, None, length, refl, sym, ◌∙◌, subst}
-use Rattle.std.proofs.lemmas.Bool.{eqb-true, false≢true, and_parts, ltb-true}
+use Rattle.std.proofs.Common.{ℕ, ◌<◌, ◌≡◌, ◌==◌, true, false, List, Option, Some, None, length, refl, subst}
+use Rattle.std.proofs.lemmas.Bool.{and_parts, ltb-true}
 use Rattle.std.specs.Prelude.{IfSome}
 use Rattle.dm_event.specs.Layout.{Layout, is_part, is_session}
 use Rattle.dm_event.specs.declared.step.Found.TheVariants.{Kept}
@@ -15,6 +15,7 @@ use Rattle.dm_model.specs.Shape.{is_txn, is_shaped}
 use Rattle.dm_state.specs.Moving.{moved}
 use Rattle.dm_state.specs.Standings.{idle, told_replies}
 use Rattle.dm_steps.proofs.Legality.{pending_shaped}
+use Rattle.dm_steps.proofs.Slots.{differs}
 use Rattle.dm_steps.specs.Next.{next_attempt}
 use Rattle.dm_steps.specs.Pendings.{kept_of}
 
@@ -24,20 +25,13 @@ pub record Untouched (c : ℕ) (s : Step) : Type 0 where
   pub replies : told_replies c s 0 ≡ 0
 
 module _ (layout : Layout) (c : ℕ) (none : is_session c ≡ false) where
-  differs : (x : ℕ) → is_session x ≡ true → (x == c) ≡ false
-  differs x h = by (x == c) refl
-    where
-      by : (b : Bool) → (x == c) ≡ b → b ≡ false
-      by false e = refl
-      by true e = absurd (false≢true (sym none ∙ subst (λ (y : ℕ). is_session y ≡ true) (eqb-true x c e) h))
-
   of_txn : (t : TxnId) → is_txn layout t ≡ true → (t.session == c) ≡ false
-  of_txn t h = differs t.session (and_parts _ _ h).0
+  of_txn t h = differs is_session c t.session none (and_parts _ _ h).0
 
   -- a step with its shape is of no such session
   pub foreign : (s : Step) → is_shaped layout s ≡ true → Untouched c s
   foreign (Route txn want min site choice) h = let e = of_txn txn (and_parts _ _ h).0 in record { attempt = rw e refl; replies = refl }
-  foreign (Reply session number said) h = let e = differs session (and_parts _ _ h).0 in record { attempt = rw e refl; replies = rw e refl }
+  foreign (Reply session number said) h = let e = differs is_session c session none (and_parts _ _ h).0 in record { attempt = rw e refl; replies = rw e refl }
   foreign (Ask part epoch to txn) h = record { attempt = refl; replies = refl }
   foreign (Settle part epoch) h = record { attempt = refl; replies = refl }
   foreign (Begin site txn begin) h = let e = of_txn txn (and_parts _ _ (and_parts _ _ h).1).0 in record { attempt = rw e refl; replies = refl }
