@@ -10,6 +10,3 @@ mod marks;
 
 pub use index::Index;
 pub use law::{committed_next, entries_are_next};
-
-#[cfg(test)]
-mod tests;

@@ -2,9 +2,9 @@
 #![tactic(auto)]
 
 #[cfg(test)]
-mod indexes;
+mod aims;
 #[cfg(test)]
-mod marks;
+mod indexes;
 #[cfg(test)]
 mod numbers;
 #[cfg(test)]

@@ -7,7 +7,6 @@ pub mod Legality
 pub mod Sites
 pub mod Sessions
 pub mod Slots
-pub mod Numbered
 pub mod Floors
 pub mod Outcomes
 pub mod Fresh

@@ -1,4 +1,0 @@
-pub mod MarksNext
-pub mod AimsNext
-pub mod Opening
-pub mod Marked
