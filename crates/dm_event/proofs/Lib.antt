@@ -1,5 +1,6 @@
 pub mod Sites
 pub mod Backwards
+pub mod Ranges
 pub mod Components
 pub mod Rising
 pub mod Bits

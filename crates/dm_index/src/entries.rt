@@ -30,7 +30,7 @@ pub(crate) fn place(places: &[Vec<usize>], origin: usize, seq: usize) -> Option<
 }
 
 /// The entry that the step adds, where the pending step is given that a Restart keeps.
-pub(crate) fn entry_by<'a>(step: &'a Step, pending: Option<&'a Pending>) -> Option<&'a Entry>
+pub fn entry_by<'a>(step: &'a Step, pending: Option<&'a Pending>) -> Option<&'a Entry>
     ensures { option_copied result ≡ entry_by step.now (option_copied pending.entry) }
 {
     match step {
@@ -68,26 +68,26 @@ pub(crate) fn append(places: &mut [Vec<usize>], entry: Option<&Entry>, place: us
     }
 }
 
-fn reserve_at(places: &mut [Vec<usize>], i: usize) -> Result<(), NoMemory>
+fn reserve_at(places: &mut [Vec<usize>], i: usize, count: usize) -> Result<(), NoMemory>
     requires { i < length places.old }
-    ensures own { OnOk result (1 ≤ room_at (rooms_of places.new) i) }
+    ensures own { OnOk result (count ≤ room_at (rooms_of places.new) i) }
     ensures long { length places.new ≡ length places.old }
     ensures items { map (λ v. v.items) places.new ≡ map (λ v. v.items) places.old }
     ensures room { (k : ℕ) → room_at (rooms_of places.old) k ≤ room_at (rooms_of places.new) k }
 {
-    places[i].reserve(1)?;
+    places[i].reserve(count)?;
     Ok(())
 }
 
-/// Makes room for one entry of each origin.
-pub(crate) fn reserve(places: &mut [Vec<usize>]) -> Result<(), NoMemory>
-    ensures all { OnOk result ((k : ℕ) → k < length places.old → 1 ≤ room_at (rooms_of places.new) k) }
+/// Makes room for so many further entries of each origin.
+pub(crate) fn reserve(places: &mut [Vec<usize>], count: usize) -> Result<(), NoMemory>
+    ensures all { OnOk result ((k : ℕ) → k < length places.old → count ≤ room_at (rooms_of places.new) k) }
     ensures long { length places.new ≡ length places.old }
     ensures items { map (λ v. v.items) places.new ≡ map (λ v. v.items) places.old }
     ensures room { (k : ℕ) → room_at (rooms_of places.old) k ≤ room_at (rooms_of places.new) k }
 {
     for i in 0..places.len() {
-        reserve_at(places, i)?;
+        reserve_at(places, i, count)?;
     }
     Ok(())
 }

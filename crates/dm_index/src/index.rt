@@ -68,15 +68,15 @@ impl Index {
         entries::place(&self.entries, origin as usize, seq as usize)
     }
 
-    /// Makes room for one further entry of each origin.
-    pub fn reserve(&mut self) -> Result<(), NoMemory>
-        ensures all { OnOk result ((i : ℕ) → i < length self.old.entries → 1 ≤ room_at self.new.rooms i) }
+    /// Makes room for so many further entries of each origin.
+    pub fn reserve(&mut self, count: usize) -> Result<(), NoMemory>
+        ensures all { OnOk result ((i : ℕ) → i < length self.old.entries → count ≤ room_at self.new.rooms i) }
         ensures routes { self.new.routes ≡ self.old.routes }
         ensures doubts { self.new.doubts ≡ self.old.doubts }
         ensures entries { self.new.entries ≡ self.old.entries }
         ensures rooms { (i : ℕ) → room_at self.old.rooms i ≤ room_at self.new.rooms i }
     {
-        entries::reserve(&mut self.entries)
+        entries::reserve(&mut self.entries, count)
     }
 
     /// Brings the index to what it is after the step, which comes to the place behind all steps. `pending`

@@ -8,5 +8,6 @@ mod index;
 mod law;
 mod marks;
 
+pub use entries::entry_by;
 pub use index::Index;
 pub use law::{committed_next, entries_are_next};

@@ -20,7 +20,7 @@ use Rattle.dm_model.proofs.LaggingRefresh.{Grounded, grounded_past}
 use Rattle.dm_model.proofs.LegalSteps.{LegalCommit, legal_commit, legal_release, legal_grant, legal_restart, doubted_commit, doubted_release, doubted_grant}
 use Rattle.dm_model.proofs.ListFacts.{each_map}
 use Rattle.dm_model.proofs.MastershipSound.{mastered_past, floor_at, asked_between, settled_between}
-use Rattle.dm_model.proofs.Numbering.{Numbered, ClosedBy, closed_more}
+use Rattle.dm_model.proofs.Numbering.{Numbered, ClosedBy, closed_more, count_at}
 use Rattle.dm_model.proofs.NumbersKept.{InDoubt}
 use Rattle.dm_model.proofs.NumbersSound.{SoundPast, sound_past, sound_step, counts, vector_closed}
 use Rattle.dm_model.proofs.StepTests.{ran}
@@ -50,7 +50,7 @@ DoubtClosed es (Some (pending.Commit e)) = ClosedBy es (at e.begin)
 DoubtClosed es (Some (pending.Release part epoch to v)) = ClosedBy es (at v)
 DoubtClosed es (Some (pending.Grant part epoch v)) = ClosedBy es (at v)
 
-act_more : (count : ℕ) (d : Entry) (es : List Entry) → Numbered (d ∷ es) → (s : Step) → ActClosed count es s → ActClosed count (d ∷ es) s
+pub act_more : (count : ℕ) (d : Entry) (es : List Entry) → Numbered (d ∷ es) → (s : Step) → ActClosed count es s → ActClosed count (d ∷ es) s
 act_more count d es n (Commit e) h = closed_more d es (at e.begin) n h
 act_more count d es n (Grant site part epoch v) h = record { long = h.long; closed = closed_more d es (at v) n h.closed }
 act_more count d es n s h = tt
@@ -216,7 +216,7 @@ firm_past layout (st ∷ past) h = firm_step layout past (sound_past layout past
 
 -- ---- the floor
 
-abbrev joined : ℕ → ℕ → List Step → ℕ → ℕ
+abbrev pub joined : ℕ → ℕ → List Step → ℕ → ℕ
 joined count i ds j = at (join_all count (filter_map (floor_vector i) ds)) j
 
 -- inside a join is inside one of the vectors
@@ -322,30 +322,37 @@ other_inside es count i d one ne r (Grant site part epoch v ∷ ds) a l h j =
     (λ t k. other_inside es count i d one ne r ds a.1 l k j) h
 other_inside es count i d one ne r (s ∷ ds) a l h j = other_inside es count i d one ne r ds a.1 l h j
 
--- what a site may not lose is closed
-pub floor_closed : (layout : Layout) (past : List Step) → LegalPast layout past → (i : ℕ) → ClosedBy (entries past) (floor_at layout past i)
-floor_closed layout past h i =
-    let n = sound_past layout past h in
-    let m = mastered_past layout past h in
-    let f = firm_past layout past h in
-    let around = around_all layout (entries past) n.numbered (grounded_past layout past h) n.sized in
+-- what is joined of acts is closed, where their entries are numbered and their vectors closed
+pub acts_closed : (layout : Layout) (ds : List Step) (i : ℕ) → Numbered (filter_map entry_of ds) → Grounded layout (filter_map entry_of ds)
+    → Each (λ e. length e.begin ≡ layout.sites) (filter_map entry_of ds) → Each (ActClosed layout.sites (filter_map entry_of ds)) ds
+    → ((j : ℕ) → joined layout.sites i ds j ≤ count_at j (filter_map entry_of ds)) → ClosedBy (filter_map entry_of ds) (joined layout.sites i ds)
+acts_closed layout ds i n g l a c =
+    let es = filter_map entry_of ds in
+    let around = around_all layout es n g l in
     record {
-      within = λ j. le_trans (m.floored i j) ((n.closed i).within j);
-      begun = by_each (entries past) (rule_all (entries past) (entries past) (λ w c. c.begun)) (own_inside layout.sites i (acts past) n.sized) around
-          (seq_all (entries past) n.numbered)
-          (λ d one ne r. other_inside (entries past) layout.sites i d one ne r (acts past) f.acts around);
+      within = c;
+      begun = by_each es (rule_all es es (λ w k. k.begun)) (own_inside layout.sites i ds l) around (seq_all es n)
+          (λ d one ne r. other_inside es layout.sites i d one ne r ds a around);
     }
   where
-    by_each : (xs : List Entry) → Each (Rule (entries past)) xs → Each (λ e. e.origin ≡ i → (j : ℕ) → at (commit_vector e) j ≤ floor_at layout past i j) xs
+    by_each : (xs : List Entry) → Each (Rule (filter_map entry_of ds)) xs
+        → Each (λ e. e.origin ≡ i → (j : ℕ) → at (commit_vector e) j ≤ joined layout.sites i ds j) xs
         → Each (Around layout.sites) xs → Each (λ e. 1 ≤ e.seq) xs
-        → ((d : Entry) → 1 ≤ d.seq → d.origin ≢ i → Rule (entries past) d → d.seq ≤ floor_at layout past i d.origin → (j : ℕ)
-        → at d.begin j ≤ floor_at layout past i j)
-        → Each (λ e. e.seq ≤ floor_at layout past i e.origin → (j : ℕ) → at e.begin j ≤ floor_at layout past i j) xs
+        → ((d : Entry) → 1 ≤ d.seq → d.origin ≢ i → Rule (filter_map entry_of ds) d → d.seq ≤ joined layout.sites i ds d.origin → (j : ℕ)
+        → at d.begin j ≤ joined layout.sites i ds j)
+        → Each (λ e. e.seq ≤ joined layout.sites i ds e.origin → (j : ℕ) → at e.begin j ≤ joined layout.sites i ds j) xs
     by_each [] r o a q g = tt
-    by_each (d ∷ ds) r o a q g = (
+    by_each (d ∷ xs) r o a q g = (
       (λ k j. elim (cases_eq d.origin i) [
         | inl p ↦ le_trans (begin_below layout.sites d a.0 j) (o.0 p j)
         | inr ne ↦ g d q.0 ne r.0 k j
       ]),
-      by_each ds r.1 o.1 a.1 q.1 g,
+      by_each xs r.1 o.1 a.1 q.1 g,
     )
+
+-- what a site may not lose is closed
+pub floor_closed : (layout : Layout) (past : List Step) → LegalPast layout past → (i : ℕ) → ClosedBy (entries past) (floor_at layout past i)
+floor_closed layout past h i =
+    let n = sound_past layout past h in
+    acts_closed layout (acts past) i n.numbered (grounded_past layout past h) n.sized (firm_past layout past h).acts
+    (λ j. le_trans ((mastered_past layout past h).floored i j) ((n.closed i).within j))

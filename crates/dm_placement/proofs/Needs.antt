@@ -12,7 +12,7 @@ use Rattle.dm_event.specs.Vectors.{at, sites_to, vector_by, greatest, join, join
 use Rattle.dm_event.proofs.Components.{at_join, same_components, zeros_from, long_join}
 use Rattle.dm_model.proofs.VectorFacts.{at_by, long_by}
 use Rattle.dm_model.specs.Tests.{is_among}
-use Rattle.dm_placement.proofs.Totals.{range_more}
+use Rattle.dm_event.proofs.Ranges.{range_more}
 
 -- ---- the greatest of vectors, one vector more at the end
 

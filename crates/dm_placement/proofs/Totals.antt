@@ -3,6 +3,7 @@ use Rattle.std.proofs.Common.{ℕ, zero, suc, ◌+◌, ◌*◌, ◌<◌, ◌≤�
 use Rattle.std.specs.List.{range_with_len, filter, sum_by}
 use Rattle.std.specs.Prelude.{if◌then◌else◌, map}
 use Rattle.std.proofs.lemmas.List.Sums.{sum_by-cons, sum_by_push}
+use Rattle.dm_event.proofs.Ranges.{range_more}
 
 -- the sum of the function over the numbers below n
 abbrev pub total : (ℕ → ℕ) → ℕ → ℕ
@@ -12,12 +13,6 @@ total f (suc n) = total f n + f n
 -- one number more, as a loop counts
 pub total_more : (f : ℕ → ℕ) (n : ℕ) → total f (n + 1) ≡ total f n + f n
 total_more f n = ap (total f) (add-one n)
-
-pub range_more : (a n : ℕ) → range_with_len a (suc n) ≡ range_with_len a n ++ (a + n) ∷ []
-range_more a zero = ap (λ (x : ℕ). x ∷ []) (omega arith)
-range_more a (suc n) =
-    ap (λ (xs : List ℕ). a ∷ xs) (range_more (a + 1) n)
-    ∙ ap (λ (x : ℕ). (a ∷ range_with_len (a + 1) n) ++ x ∷ []) (let e : a + 1 + n ≡ a + suc n = omega arith in e)
 
 pub sum_range : (f : ℕ → ℕ) (n : ℕ) → sum_by f (range_with_len 0 n) ≡ total f n
 sum_range f zero = refl

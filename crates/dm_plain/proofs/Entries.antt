@@ -11,7 +11,7 @@ use Rattle.dm_model.specs.Progress.{entry_count}
 use Rattle.dm_model.specs.Values.{newest}
 use Rattle.dm_model.specs.Words.{count_of}
 use Rattle.dm_steps.specs.Adding.{of_origin, with_number, written_by, unclosed_one}
-use Rattle.dm_steps.proofs.Past.{past_more}
+use Rattle.dm_event.proofs.Backwards.{past_more}
 use Rattle.dm_steps.proofs.Entries.{named, entries_more, count_one, find_one, newest_one, unclosed_more}
 
 module _ (steps : List Step) (i : ℕ) (s : Step) (o : Option Entry) (h : i < length steps) (e : s ≡ get_or steps i s)

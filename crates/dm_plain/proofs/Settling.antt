@@ -10,7 +10,7 @@ use Rattle.dm_model.specs.Attempts.{is_route}
 use Rattle.dm_model.specs.Outcomes.{placings_since, settled_epoch, settled_epochs}
 use Rattle.dm_model.specs.Placings.{placing}
 use Rattle.dm_model.specs.Tests.{is_among}
-use Rattle.dm_steps.proofs.Past.{past_more}
+use Rattle.dm_event.proofs.Backwards.{past_more}
 
 or_first : (a b : Bool) → (a || b) ≡ ((a || false) || b)
 or_first true b = refl

@@ -20,7 +20,7 @@ pub fn entry_of<'a>(step: &'a Step, before: &'a [Step]) -> Option<&'a Entry>
 }
 
 /// The entry of a pending commit that is kept.
-pub(crate) fn kept_entry(found: Found, pending: Option<&Pending>) -> Option<&Entry>
+pub fn kept_entry(found: Found, pending: Option<&Pending>) -> Option<&Entry>
     ensures { option_copied result ≡ kept_entry found (option_copied pending.entry) }
 {
     match (found, pending) {
@@ -43,7 +43,7 @@ pub fn entry_count(steps: &[Step], origin: SiteNo) -> u64
 }
 
 /// 1 for an entry of the origin, else 0.
-pub(crate) fn is_of(entry: Option<&Entry>, origin: SiteNo) -> u64
+pub fn is_of(entry: Option<&Entry>, origin: SiteNo) -> u64
     ensures { result ≡ of_origin origin (option_copied entry.entry) }
 {
     match entry {

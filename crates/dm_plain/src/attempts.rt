@@ -64,7 +64,8 @@ pub fn routes(steps: &[Step], session: u32) -> u64
     count
 }
 
-fn routing_by(step: &Step, session: u32) -> Option<Routing>
+/// What the step says, if it is a Route of the session.
+pub fn routing_by(step: &Step, session: u32) -> Option<Routing>
     ensures { result ≡ routing_by session step.now }
 {
     match step {
@@ -84,7 +85,8 @@ fn routing_by(step: &Step, session: u32) -> Option<Routing>
     }
 }
 
-fn wanted_by(step: &Step, session: u32) -> Option<&Want>
+/// What the step wants, if it is a Route of the session.
+pub fn wanted_by(step: &Step, session: u32) -> Option<&Want>
     ensures { option_copied result ≡ wanted_by session step.now }
 {
     match step {
@@ -138,7 +140,8 @@ fn want(steps: &[Step], txn: TxnId) -> Option<&Want>
     last
 }
 
-fn wanted_keys(want: &Want) -> &[Key]
+/// The keys that a Route with this want declares.
+pub fn wanted_keys(want: &Want) -> &[Key]
     ensures { result.now ≡ wanted_keys want.now }
 {
     match want {

@@ -27,7 +27,8 @@ pub fn is_down(steps: &[Step], site: SiteNo) -> bool
     last.unwrap_or(false)
 }
 
-fn doubt_at(step: &Step, site: SiteNo) -> Option<&Pending>
+/// The pending step, if the step is a Doubt of the site.
+pub fn doubt_at(step: &Step, site: SiteNo) -> Option<&Pending>
     ensures { option_copied result ≡ doubt_at site step.now }
 {
     match step {

@@ -30,7 +30,7 @@ fn floor_of_entry(schema: &Schema, entry: &Entry, site: SiteNo) -> Option<Vector
 }
 
 /// What a kept pending step of a site adds to the floor of a site.
-fn kept_floor(
+pub fn kept_floor(
     schema: &Schema,
     found: Found,
     pending: Option<&Pending>,

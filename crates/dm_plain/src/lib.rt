@@ -12,13 +12,15 @@ mod sessions;
 mod since;
 mod values;
 
-pub use acts::{entry_at, entry_count, entry_of};
-pub use attempts::{attempt, declared, last_routing, last_want, replies, routes};
-pub use doubts::{is_down, pending_at};
-pub use floors::{entry_count_with_kept, floor, floor_with_kept, unclosed_with_kept};
+pub use acts::{entry_at, entry_count, entry_of, is_of, kept_entry};
+pub use attempts::{
+    attempt, declared, last_routing, last_want, replies, routes, routing_by, wanted_by, wanted_keys,
+};
+pub use doubts::{doubt_at, is_down, pending_at};
+pub use floors::{entry_count_with_kept, floor, floor_with_kept, kept_floor, unclosed_with_kept};
 pub use placings::placing;
 pub use progress::{full, reached, site_vector};
-pub use running::{begin_vector, holder, run_site, runner};
-pub use sessions::session_vector;
+pub use running::{begin_vector, common_key, holder, run_site, runner};
+pub use sessions::{join_one, session_vector};
 pub use since::{last_settled, restarted_since, stood_settled};
 pub use values::value;

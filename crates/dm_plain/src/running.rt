@@ -106,7 +106,7 @@ fn is_among(keys: &[Key], key: Key) -> bool
 }
 
 /// The first of the keys that is also among the others.
-fn common_key(keys: &[Key], others: &[Key]) -> Option<Key>
+pub fn common_key(keys: &[Key], others: &[Key]) -> Option<Key>
     ensures { result ≡ common_key keys.now others.now }
 {
     for key in keys {

@@ -64,7 +64,7 @@ fn answered_by(schema: &Schema, step: &Step, before: &[Step], session: u32) -> O
 }
 
 /// The maximum with one vector more, if there is one.
-pub(crate) fn join_one(mut seen: Vector, more: Option<Vector>) -> Vector
+pub fn join_one(mut seen: Vector, more: Option<Vector>) -> Vector
     requires { IfSome more (λ vector. length seen ≡ length vector) }
     ensures { result ≡ join_one seen more }
 {

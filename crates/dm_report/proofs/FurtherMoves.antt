@@ -16,7 +16,7 @@ use Rattle.dm_model.specs.Words.{latest}
 use Rattle.dm_report.specs.declared.moves.Move.{Move}
 use Rattle.dm_report.specs.Keeping.{kept_release, kept_move}
 use Rattle.dm_report.specs.Moves.{released_by, moved, moves_by}
-use Rattle.dm_report.proofs.GoingBack.{past_more}
+use Rattle.dm_event.proofs.Backwards.{past_more}
 
 -- ---- a Restart that keeps a release
 

@@ -1,3 +1,2 @@
-pub mod GoingBack
 pub mod FurtherMoves
 pub mod LinesOf

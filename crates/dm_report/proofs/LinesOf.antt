@@ -3,18 +3,15 @@ use Rattle.std.proofs.Common.{ℕ, zero, suc, ◌+◌, ◌-◌, ◌≤◌, ◌�
 use Rattle.std.proofs.lemmas.List.{append-nil}
 use Rattle.std.proofs.lemmas.List.Concat.{flat_map-append}
 use Rattle.std.specs.List.{flat_map, range_with_len}
+use Rattle.dm_event.proofs.Ranges.{range_more}
 use Rattle.dm_event.specs.declared.step.Step.{Step}
 use Rattle.dm_event.specs.Layout.{Layout}
 use Rattle.dm_text.specs.Text.{Begins}
 use Rattle.dm_report.specs.Rest.{site_text, sites_text, part_text, parts_text}
 
-range_more : (a n j : ℕ) → a + n ≡ j → range_with_len a (suc n) ≡ range_with_len a n ++ j ∷ []
-range_more a zero j e = ap (λ (k : ℕ). k ∷ []) (omega (arith, e))
-range_more a (suc n) j e = ap (λ (l : List ℕ). a ∷ l) (range_more (a + 1) n j (omega (arith, e)))
-
 lines_more : (f : ℕ → List ℕ) (a n j : ℕ) → a + n ≡ j → flat_map f (range_with_len a (suc n)) ≡ flat_map f (range_with_len a n) ++ f j
 lines_more f a n j e =
-    ap (λ (l : List ℕ). flat_map f l) (range_more a n j e)
+    ap (λ (l : List ℕ). flat_map f l) (range_more a n ∙ ap (λ (k : ℕ). range_with_len a n ++ k ∷ []) e)
     ∙ flat_map-append f (range_with_len a n) (j ∷ [])
     ∙ ap (λ (l : List ℕ). flat_map f (range_with_len a n) ++ l) (append-nil (f j))
 

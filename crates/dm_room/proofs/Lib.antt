@@ -1,5 +1,5 @@
-mod Sums
-mod KeptNext
-mod Needs
-mod Installing
+pub mod Sums
+pub mod KeptNext
+pub mod Needs
+pub mod Installing
 mod Worked

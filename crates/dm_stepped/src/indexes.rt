@@ -20,7 +20,7 @@ fn schema(alloc: Global) -> Result<Schema, Fail> {
 fn index_of_no_steps(rt: HostRuntime) -> Result<(), Fail> {
     let alloc = rt.alloc();
     let mut index = Index::new(alloc, &schema(alloc)?)?;
-    index.reserve()?;
+    index.reserve(1)?;
     for number in [0, 1, 2, 3] {
         assert_eq!(rt; index.route(number), None);
     }

@@ -12,3 +12,4 @@ pub mod Outcomes
 pub mod Fresh
 pub mod Running
 pub mod Terms
+pub mod KeptFloors

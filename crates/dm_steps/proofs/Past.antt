@@ -2,16 +2,12 @@
 use Rattle.std.proofs.Common.{ℕ, zero, suc, ◌+◌, ◌<◌, ◌≤◌, ◌≡◌, List, [], ◌∷◌, length, take, drop, get_or, refl, ap, sym, ◌∙◌, subst, arith}
 use Rattle.std.specs.Prelude.{reverse}
 use Rattle.std.proofs.lemmas.List.{take-append-drop}
-use Rattle.dm_event.proofs.Backwards.{reverse_take}
+use Rattle.dm_event.proofs.Backwards.{past_more}
 use Rattle.dm_event.specs.declared.step.Step.{Step}
 use Rattle.dm_event.specs.Layout.{Layout}
 use Rattle.dm_model.specs.Allowed.{Allowed}
 use Rattle.dm_model.specs.Legal.{Legal, LegalPast}
 use Rattle.dm_model.proofs.Histories.{legal_prefix}
-
--- after one step more it stands first
-pub past_more : {X : Type 0} (xs : List X) (i : ℕ) (x : X) → i < length xs → x ≡ get_or xs i x → reverse (take (i + 1) xs) ≡ x ∷ reverse (take i xs)
-past_more {X = X} xs i x h e = reverse_take xs i x h ∙ ap (λ (y : X). y ∷ reverse (take i xs)) (sym e)
 
 take_all : {X : Type 0} (xs : List X) (i : ℕ) → length xs ≤ i → take i xs ≡ xs
 take_all [] zero h = refl

@@ -7,7 +7,8 @@ use Rattle.dm_model.specs.Floors.{floor, floor_vectors}
 use Rattle.dm_steps.specs.Adding.{join_one}
 use Rattle.dm_steps.proofs.Components.{join_none, join_one_more, long_both}
 use Rattle.dm_steps.proofs.FloorVectors.{floor_more}
-use Rattle.dm_steps.proofs.Past.{past_more, legal_front, allowed_at}
+use Rattle.dm_event.proofs.Backwards.{past_more}
+use Rattle.dm_steps.proofs.Past.{legal_front, allowed_at}
 use Rattle.dm_plain.proofs.floors.floor.Goals as goal
 
 pub loop-i-init : goal.loop-i-init

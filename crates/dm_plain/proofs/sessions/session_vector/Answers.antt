@@ -6,7 +6,8 @@ use Rattle.dm_event.specs.Vectors.{join_all}
 use Rattle.dm_model.specs.Sessions.{answered}
 use Rattle.dm_steps.specs.Adding.{join_one}
 use Rattle.dm_steps.proofs.Components.{join_none, join_one_more, long_both}
-use Rattle.dm_steps.proofs.Past.{past_more, legal_front}
+use Rattle.dm_event.proofs.Backwards.{past_more}
+use Rattle.dm_steps.proofs.Past.{legal_front}
 use Rattle.dm_plain.proofs.sessions.session_vector.Goals as goal
 
 pub loop-i-init : goal.loop-i-init

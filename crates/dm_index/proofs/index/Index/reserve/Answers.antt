@@ -16,9 +16,9 @@ returns-clause-all c =
     let items = length-map c.self.inside.entries.items (λ (v : Vec ℕ Global). v.items) in
     let read = ap (λ (xs : List (Vec ℕ Global)). length xs) c.deref_mut.ensures.value in
     let long = c.reserve.ensures.long ∙ c.deref_mut.ensures.len in
-    on_ok c.reserve.result ((k : ℕ) → k < length c.deref_mut.result.now → 1 ≤ room_at (rooms_of c.reserve.new.places) k)
-    ((i : ℕ) → i < length c.args.self.now.entries → 1 ≤ room_at (rooms_of (with_items c.self.inside.entries c.reserve.new.places).items) i)
+    on_ok c.reserve.result ((k : ℕ) → k < length c.deref_mut.result.now → c.args.count ≤ room_at (rooms_of c.reserve.new.places) k)
+    ((i : ℕ) → i < length c.args.self.now.entries → c.args.count ≤ room_at (rooms_of (with_items c.self.inside.entries c.reserve.new.places).items) i)
     c.reserve.ensures.all
     (λ h i l.
-    subst (λ (xs : List (Vec ℕ Global)). 1 ≤ room_at (rooms_of xs) i) (sym (with_items_is c.self.inside.entries c.reserve.new.places long))
+    subst (λ (xs : List (Vec ℕ Global)). c.args.count ≤ room_at (rooms_of xs) i) (sym (with_items_is c.self.inside.entries c.reserve.new.places long))
     (h i (omega (arith, l, shown, items, read))))
