@@ -31,7 +31,7 @@ pub(crate) fn is_route(step: &Step, session: u32) -> bool
 }
 
 /// The number of the session's Replies.
-#[tactic(auto, using(dm_steps::proofs::Past::past_more))]
+#[tactic(auto, using(dm_event::proofs::Backwards::past_more))]
 pub fn replies(steps: &[Step], session: u32) -> u64
     ensures exact { result ≡ replies session (reverse steps.now) }
     ensures few { result ≤ length steps.now }
@@ -46,7 +46,7 @@ pub fn replies(steps: &[Step], session: u32) -> u64
 }
 
 /// The number of Routes of the session's current item.
-#[tactic(auto, using(dm_steps::proofs::Past::past_more))]
+#[tactic(auto, using(dm_event::proofs::Backwards::past_more))]
 pub fn routes(steps: &[Step], session: u32) -> u64
     ensures exact { result ≡ routes session (reverse steps.now) }
     ensures few { result ≤ length steps.now }
@@ -105,7 +105,7 @@ fn want_of(step: &Step, attempt: TxnId) -> Option<&Want>
 }
 
 /// The last Route of the session.
-#[tactic(auto, using(dm_steps::proofs::Past::past_more, crate::proofs::Routings::routing_last))]
+#[tactic(auto, using(dm_event::proofs::Backwards::past_more, crate::proofs::Routings::routing_last))]
 pub fn last_routing(steps: &[Step], session: u32) -> Option<Routing>
     ensures { result ≡ option_map without_want (last_routing session (reverse steps.now)) }
 {
@@ -117,7 +117,7 @@ pub fn last_routing(steps: &[Step], session: u32) -> Option<Routing>
 }
 
 /// What the last Route of the session wants.
-#[tactic(auto, using(dm_steps::proofs::Past::past_more, crate::proofs::Routings::wanted_last))]
+#[tactic(auto, using(dm_event::proofs::Backwards::past_more, crate::proofs::Routings::wanted_last))]
 pub fn last_want(steps: &[Step], session: u32) -> Option<&Want>
     ensures { option_copied result ≡ option_map (λ r. r.want) (last_routing session (reverse steps.now)) }
 {
@@ -129,7 +129,7 @@ pub fn last_want(steps: &[Step], session: u32) -> Option<&Want>
 }
 
 /// What the Route of the attempt wants.
-#[tactic(auto, using(dm_steps::proofs::Past::past_more, crate::proofs::Routings::want_last))]
+#[tactic(auto, using(dm_event::proofs::Backwards::past_more, crate::proofs::Routings::want_last))]
 fn want(steps: &[Step], txn: TxnId) -> Option<&Want>
     ensures { option_copied result ≡ option_map (λ r. r.want) (routing txn (reverse steps.now)) }
 {
@@ -218,7 +218,7 @@ fn dropped_by(step: &Step, before: AttemptState) -> AttemptState
 }
 
 /// The state of the session's current item.
-#[tactic(auto, using(dm_steps::proofs::Past::past_more))]
+#[tactic(auto, using(dm_event::proofs::Backwards::past_more))]
 fn state(steps: &[Step], session: u32) -> AttemptState
     ensures { result ≡ state session (reverse steps.now) }
 {
@@ -230,7 +230,7 @@ fn state(steps: &[Step], session: u32) -> AttemptState
 }
 
 /// The attempt of the last Route of the session's current item.
-#[tactic(auto, using(dm_steps::proofs::Past::past_more, crate::proofs::Routings::routed_last))]
+#[tactic(auto, using(dm_event::proofs::Backwards::past_more, crate::proofs::Routings::routed_last))]
 fn current_txn(steps: &[Step], session: u32) -> Option<TxnId>
     ensures { result ≡ option_map (λ r. r.txn) (last_routing session (since (is_reply session) (reverse steps.now))) }
 {

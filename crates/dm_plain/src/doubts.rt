@@ -16,7 +16,7 @@ fn down_after(step: &Step, site: SiteNo) -> Option<bool>
 }
 
 /// Whether the site is down: from its Doubt to its next Restart.
-#[tactic(auto, using(dm_steps::proofs::Past::past_more))]
+#[tactic(auto, using(dm_event::proofs::Backwards::past_more))]
 pub fn is_down(steps: &[Step], site: SiteNo) -> bool
     ensures { result ≡ is_down site (reverse steps.now) }
 {
@@ -38,7 +38,7 @@ pub fn doubt_at(step: &Step, site: SiteNo) -> Option<&Pending>
 }
 
 /// The pending step of the site's last Doubt.
-#[tactic(auto, using(dm_steps::proofs::Past::past_more))]
+#[tactic(auto, using(dm_event::proofs::Backwards::past_more))]
 pub fn pending_at(steps: &[Step], site: SiteNo) -> Option<&Pending>
     ensures { option_copied result ≡ pending_at site (reverse steps.now) }
 {

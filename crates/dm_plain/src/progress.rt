@@ -44,7 +44,7 @@ fn is_refresh(step: &Step, site: SiteNo, origin: SiteNo) -> bool
 }
 
 /// The vector that the site's last Restart set.
-#[tactic(auto, using(dm_steps::proofs::Past::past_more))]
+#[tactic(auto, using(dm_event::proofs::Backwards::past_more))]
 fn last_restart(steps: &[Step], site: SiteNo) -> Option<Vector>
     ensures { result ≡ latest (restart_vector site) (reverse steps.now) }
 {
@@ -56,7 +56,7 @@ fn last_restart(steps: &[Step], site: SiteNo) -> Option<Vector>
 }
 
 /// How often the site has refreshed from the origin since its last Restart.
-#[tactic(auto, using(dm_steps::proofs::Past::past_more))]
+#[tactic(auto, using(dm_event::proofs::Backwards::past_more))]
 fn refreshes(steps: &[Step], site: SiteNo, origin: SiteNo) -> u64
     ensures exact { result ≡ count_of (is_refresh site origin) (since (is_restart site) (reverse steps.now)) }
     ensures memory { length steps.now < 2 ^ 63 }

@@ -25,7 +25,7 @@ fn runs_after(step: &Step, site: SiteNo, attempt: TxnId) -> Option<bool>
 }
 
 /// Whether the attempt runs at the site.
-#[tactic(auto, using(dm_steps::proofs::Past::past_more))]
+#[tactic(auto, using(dm_event::proofs::Backwards::past_more))]
 fn runs(steps: &[Step], site: SiteNo, txn: TxnId) -> bool
     ensures { result ≡ runs site txn (reverse steps.now) }
 {
@@ -58,7 +58,7 @@ fn begin_of(step: &Step, attempt: TxnId) -> Option<Vector>
 }
 
 /// The attempt's begin vector.
-#[tactic(auto, using(dm_steps::proofs::Past::past_more))]
+#[tactic(auto, using(dm_event::proofs::Backwards::past_more))]
 pub fn begin_vector(steps: &[Step], txn: TxnId) -> Option<Vector>
     ensures { result ≡ begin_vector txn (reverse steps.now) }
 {
@@ -79,7 +79,7 @@ fn session_begin(step: &Step, session: u32) -> Option<Vector>
 }
 
 /// The begin vector of the session's last Begin.
-#[tactic(auto, using(dm_steps::proofs::Past::past_more))]
+#[tactic(auto, using(dm_event::proofs::Backwards::past_more))]
 pub(crate) fn last_begin(steps: &[Step], session: u32) -> Option<Vector>
     ensures { result ≡ last_begin session (reverse steps.now) }
 {

@@ -83,7 +83,7 @@ pub fn last_settled(
 }
 
 /// Whether the site was restarted after the session's last Route.
-#[tactic(auto, using(dm_steps::proofs::Past::past_more))]
+#[tactic(auto, using(dm_event::proofs::Backwards::past_more))]
 pub fn restarted_since(steps: &[Step], session: u32, site: SiteNo) -> bool
     ensures { result ≡ restarted_since session site (reverse steps.now) }
 {

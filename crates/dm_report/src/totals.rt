@@ -36,7 +36,7 @@ fn answers(step: &Step, outcome: Outcome) -> bool
 }
 
 /// How many Replies have the outcome.
-#[tactic(auto, using(crate::proofs::GoingBack::past_more))]
+#[tactic(auto, using(dm_event::proofs::Backwards::past_more))]
 fn total(steps: &[Step], outcome: Outcome) -> u64
     ensures exact { result ≡ total outcome (reverse steps.now) }
     ensures few { result ≤ length steps.now }
