@@ -1,11 +1,12 @@
-//! The history so far, as the plain list of its steps.
+//! The history so far, and what it says.
 
 ghost use Rattle.std.specs.List.{list_all};
-ghost use Rattle.std.specs.Prelude.{ℕ, ◌≡◌, ◌<◌, ◌≤◌, ◌^◌, ◌↔◌, ◌++◌, ◌∷◌, [], true, false, None, Some, length, IfOk, IfSome, IsNone, OnOk, OnErr, MatchResult, option_copied, reverse, take};
+ghost use Rattle.std.specs.Prelude.{ℕ, ◌≡◌, ◌<◌, ◌≤◌, ◌^◌, ◌↔◌, ◌++◌, ◌∷◌, [], true, false, None, Some, length, IfOk, IfSome, IsOk, IsNone, OnOk, OnErr, MatchResult, option_copied, reverse, take};
 ghost use Rattle.dm_event.specs.Layout.{is_key, is_site};
 ghost use Rattle.dm_core.specs.Ledger.{past};
 ghost use Rattle.dm_model.specs.Acts.{entry_at};
-ghost use Rattle.dm_model.specs.Allowed.{Allowed, next_refresh, refusal, runner};
+ghost use Rattle.dm_kept.specs.Roomy.{HasRoom};
+ghost use Rattle.dm_model.specs.Allowed.{Allowed, next_refresh, refusal, runner, with_kept};
 ghost use Rattle.dm_model.specs.Attempts.{attempt, declared, replies, routes, wanted_keys, wants_txn};
 ghost use Rattle.dm_model.specs.Choices.{choice_due};
 ghost use Rattle.dm_model.specs.Doubts.{is_down, pending_at};
@@ -21,29 +22,29 @@ ghost use Rattle.dm_model.specs.SessionUp.{SessionUp};
 ghost use Rattle.dm_model.specs.Sessions.{session_vector};
 ghost use Rattle.dm_model.specs.Snapshot.{Snapshot};
 ghost use Rattle.dm_model.specs.Values.{value};
+ghost use Rattle.dm_room.specs.Room.{need};
 ghost use Rattle.dm_store.specs.Histories.{committed_inside};
+ghost use Rattle.dm_told.specs.Asking.{is_current};
 
+use crate::counting::full;
+use crate::doubts::pending_at;
 use crate::inside::inside;
-use crate::noting::note;
 use dm_event::{
-    Attempt, Choice, Entry, Key, MAX_SESSIONS, NoMemory, Part, Pending, Placing, Said, Schema,
-    SiteNo, Step, TxnId, Value, Vector, Want, Why,
+    Attempt, Choice, Entry, Found, Key, MAX_SESSIONS, NoMemory, Part, Pending, Placing, Said,
+    Schema, SiteNo, Step, TxnId, Value, Vector, Want, Why,
 };
-use dm_listed::Listed;
+use dm_kept::Kept;
 use dm_model::refreshes_reach_full;
-use dm_placement::Window;
 use dm_store::Past;
+use dm_told::{Told, stands_routed};
 use std::alloc::Global;
 use std::marker::Model;
 
-/// The history so far, each step of which was allowed by those before it.
+/// The history so far, each step of which was allowed by those before it. No question but those for
+/// whole lists costs more the longer the history is, where its call doesn't say so.
 #[derive(Drop)]
 pub struct Book {
-    schema: Schema,
-    items: Vec<u32>,
-    steps: Vec<Step>,
-    /// What the last Routes with declared keys wanted.
-    window: Window,
+    kept: Kept,
 }
 
 impl Model for Book {
@@ -51,11 +52,7 @@ impl Model for Book {
 
     ghost Value = { Ledger };
 
-    ghost use Rattle.dm_core.specs.Books.{ledger_of, IsBook};
-
-    ghost view = { ledger_of };
-
-    ghost invariant = { IsBook };
+    ghost view = { λ b. b.kept };
 }
 
 impl Book {
@@ -68,10 +65,7 @@ impl Book {
         ensures empty { IfOk result (λ book. book.steps ≡ []) }
     {
         Ok(Book {
-            schema: schema.try_clone()?,
-            items: Vec::from_slice(alloc, items)?,
-            steps: Vec::new(alloc),
-            window: Window::new(alloc)?,
+            kept: Kept::new(alloc, schema, items)?,
         })
     }
 
@@ -84,7 +78,8 @@ impl Book {
         ensures session_up { SessionUp self.now.layout result.now }
         ensures one_master { OneMaster self.now.layout result.now }
     {
-        &self.steps
+        self.kept.is_legal();
+        self.kept.steps()
     }
 
     /// The history, the earliest step first.
@@ -96,42 +91,29 @@ impl Book {
         ensures session_up { SessionUp self.layout result.items }
         ensures one_master { OneMaster self.layout result.items }
     {
-        let Book {
-            schema: _,
-            items: _,
-            steps,
-            window: _,
-        } = self;
-        steps
+        let Book { kept } = self;
+        kept.is_legal();
+        kept.into_steps()
     }
 
     pub fn schema(&self) -> &Schema
         ensures { result.now ≡ self.now.layout }
     {
-        &self.schema
-    }
-
-    /// The history as the clauses ask it.
-    fn listed(&self) -> Listed<'_>
-        ensures layout { result.layout ≡ self.now.layout }
-        ensures past { result.past ≡ past self.now }
-        ensures legal { Legal self.now.layout self.now.steps }
-    {
-        Listed::new(&self.schema, &self.steps, &self.window)
+        self.kept.schema()
     }
 
     /// The key's value at the vector.
     pub fn value(&self, key: Key, at: &Vector) -> Value
         ensures { result ≡ value self.now.layout (past self.now) key at.now }
     {
-        dm_plain::value(&self.schema, &self.steps, key, at)
+        self.kept.value(key, at)
     }
 
     /// The number of committed update transactions of each origin.
     pub fn full(&self) -> Vector
         ensures { result ≡ full self.now.layout.sites (past self.now) }
     {
-        dm_plain::full(&self.schema, &self.steps)
+        full(&self.kept)
     }
 
     /// The committed update transactions inside the vector, in the history's order: what a store needs
@@ -139,14 +121,14 @@ impl Book {
     pub fn past(&self, alloc: Global, upto: &Vector) -> Result<Vec<Past>, NoMemory>
         ensures { IfOk result (λ list. list.items ≡ committed_inside self.now.steps upto.now) }
     {
-        inside(alloc, &self.steps, upto)
+        inside(alloc, self.kept.steps(), upto)
     }
 
     /// The site's vector.
     pub fn vector(&self, site: SiteNo) -> Vector
         ensures { result ≡ site_vector self.now.layout.sites (past self.now) site }
     {
-        dm_plain::site_vector(&self.schema, &self.steps, site)
+        self.kept.vector(site)
     }
 
     /// What the site has even where nothing but its log is left: its own transactions with all that they
@@ -154,7 +136,7 @@ impl Book {
     pub fn floor(&self, site: SiteNo) -> Vector
         ensures { result ≡ floor self.now.layout.sites (past self.now) site }
     {
-        dm_plain::floor(&self.schema, &self.steps, site)
+        self.kept.floor(site)
     }
 
     /// How many committed update transactions the origin has.
@@ -163,21 +145,26 @@ impl Book {
         ensures few { result ≤ length self.now.steps }
         ensures memory { result < 2 ^ 63 }
     {
-        dm_plain::entry_count(&self.steps, origin)
+        self.kept.is_legal();
+        if self.kept.schema().is_site(origin) {
+            self.kept.entry_count(origin)
+        } else {
+            0
+        }
     }
 
     /// Whether the site is down: from a doubt there to its next restart.
     pub fn is_down(&self, site: SiteNo) -> bool
         ensures { result ≡ is_down site (past self.now) }
     {
-        dm_plain::is_down(&self.steps, site)
+        self.kept.is_down(site)
     }
 
     /// What the session was answered, as a vector: the least at which it may begin.
     pub fn session_vector(&self, session: u32) -> Vector
         ensures { result ≡ session_vector self.now.layout.sites (past self.now) session }
     {
-        dm_plain::session_vector(&self.schema, &self.steps, session)
+        self.kept.session_vector(session)
     }
 
     /// Where the partition is mastered, and how far its hand-over has come.
@@ -185,14 +172,14 @@ impl Book {
         requires { part < length self.now.layout.masters }
         ensures { result ≡ placing self.now.layout (past self.now) part }
     {
-        dm_plain::placing(&self.schema, &self.steps, part)
+        self.kept.placing(part)
     }
 
     /// The last attempt at the session's current item.
     pub fn attempt(&self, session: u32) -> Attempt
         ensures { result ≡ attempt session (past self.now) }
     {
-        dm_plain::attempt(&self.steps, session)
+        self.kept.attempt(session)
     }
 
     /// How many items of the session were answered.
@@ -200,7 +187,8 @@ impl Book {
         ensures exact { result ≡ replies session (past self.now) }
         ensures few { result ≤ length self.now.steps }
     {
-        dm_plain::replies(&self.steps, session)
+        self.kept.is_legal();
+        self.kept.replies(session)
     }
 
     /// How many attempts at the session's current item were routed.
@@ -208,21 +196,39 @@ impl Book {
         ensures exact { result ≡ routes session (past self.now) }
         ensures few { result ≤ length self.now.steps }
     {
-        dm_plain::routes(&self.steps, session)
+        self.kept.is_legal();
+        self.kept.routes(session)
     }
 
-    /// The keys that the attempt declares.
+    /// Whether the attempt stands routed or runs.
+    fn is_current(&self, txn: TxnId) -> bool
+        ensures { result ≡ is_current self.now.layout (past self.now) txn }
+    {
+        stands_routed(&self.kept, txn) || self.kept.run_site(txn).is_some()
+    }
+
+    /// The keys that the attempt declares. For one that is neither routed nor runs, all steps are looked
+    /// at.
     pub fn declared(&self, txn: TxnId) -> &[Key]
         ensures { result.now ≡ declared txn (past self.now) }
     {
-        dm_plain::declared(&self.steps, txn)
+        if self.is_current(txn) {
+            self.kept.declared(txn)
+        } else {
+            dm_plain::declared(self.kept.steps(), txn)
+        }
     }
 
-    /// The vector from which the attempt reads, once it has begun.
+    /// The vector from which the attempt reads, once it has begun. For one that doesn't run, all steps are
+    /// looked at.
     pub fn begin_vector(&self, txn: TxnId) -> Option<Vector>
         ensures { result ≡ begin_vector txn (past self.now) }
     {
-        dm_plain::begin_vector(&self.steps, txn)
+        if self.kept.run_site(txn).is_some() {
+            self.kept.begin_vector(txn)
+        } else {
+            dm_plain::begin_vector(self.kept.steps(), txn)
+        }
     }
 
     /// The earliest begun attempt that runs at the site and declares a key of the partition: a release
@@ -230,7 +236,7 @@ impl Book {
     pub fn runner(&self, site: SiteNo, part: Part) -> Option<TxnId>
         ensures { result ≡ runner self.now.layout (past self.now) site part }
     {
-        dm_plain::runner(&self.schema, &self.steps, site, part)
+        self.kept.runner(site, part)
     }
 
     /// The committed update transaction with this origin and number.
@@ -238,15 +244,31 @@ impl Book {
         ensures exact { option_copied result ≡ entry_at origin seq (past self.now) }
         ensures origin { IfSome result (λ entry. (1 ≤ entry.now.origin) × (entry.now.origin ≤ length entry.now.begin)) }
     {
-        dm_plain::entry_at(&self.steps, origin, seq)
+        self.kept.is_legal();
+        self.kept.entry(origin, seq)
     }
 
-    /// What the site's last doubt before this place of the history left pending.
+    /// What the site's last doubt left pending.
+    pub fn pending(&self, site: SiteNo) -> Option<&Pending>
+        ensures { option_copied result ≡ pending_at site (past self.now) }
+    {
+        self.kept.pending(site)
+    }
+
+    /// The site's floor as it is after a Restart that finds its log so: a kept pending step counts.
+    pub fn floor_with_kept(&self, site: SiteNo, found: Found) -> Vector
+        ensures { result ≡ floor self.now.layout.sites (with_kept site found (past self.now)) site }
+    {
+        self.kept.floor_with_kept(site, found)
+    }
+
+    /// What the site's last doubt before this place of the history left pending. The steps from there to
+    /// that doubt are looked at.
     pub fn pending_before(&self, place: usize, site: SiteNo) -> Option<&Pending>
         requires { place ≤ length self.now.steps }
         ensures { option_copied result ≡ pending_at site (reverse (take place self.now.steps)) }
     {
-        dm_plain::pending_at(&self.steps[..place], site)
+        pending_at(&self.kept.steps()[..place], site)
     }
 
     /// The least origin whose next transaction the site may take over.
@@ -256,7 +278,8 @@ impl Book {
             → IsNone result ↔ (site_vector self.now.layout.sites (past self.now) site ≡ full self.now.layout.sites (past self.now)) }
     {
         refreshes_reach_full();
-        dm_clauses::next_refresh(&self.listed(), site)
+        self.kept.is_legal();
+        dm_clauses::next_refresh(&self.kept, site)
     }
 
     /// The site and the choice that are due for a transaction of the session.
@@ -267,7 +290,7 @@ impl Book {
         ensures { result ≡ choice_due self.now.layout (past self.now) session (wanted_keys want.now) }
     {
         match want {
-            Want::Txn(keys) => dm_clauses::choice_due(&self.listed(), session, keys),
+            Want::Txn(keys) => dm_clauses::choice_due(&self.kept, session, keys),
             Want::Place(_) | Want::Restart => unreachable!(),
         }
     }
@@ -276,40 +299,57 @@ impl Book {
     pub fn said_for(&self, session: u32) -> Option<Said>
         ensures { result ≡ said_due self.now.layout (past self.now) session }
     {
-        dm_outcomes::said_due(&self.listed(), session)
+        dm_outcomes::said_due(&self.kept, session)
     }
 
     /// Whether the step may follow the history, and why not: the first rule that it breaks.
     pub fn enabled(&self, step: &Step) -> Result<(), Why>
         ensures { MatchResult result (λ done. refusal self.now.layout (past self.now) step.now ≡ None) (λ why. refusal self.now.layout (past self.now) step.now ≡ Some why) }
     {
-        match dm_clauses::refusal(&self.listed(), step) {
+        match dm_clauses::refusal(&self.kept, step) {
             None => Ok(()),
             Some(why) => Err(why),
         }
     }
 
-    /// Makes the room that pushing the step needs.
+    /// The room that the step needs beside what is kept for those that must not fail. A Moved, Commit, End,
+    /// Fail, Release, Grant, Settle, Doubt and the Reply to a counted item need none.
+    pub fn need(&self, step: &Step) -> usize
+        requires { Allowed self.now.layout (past self.now) step.now }
+        ensures { result ≡ need self.now.layout self.now.items (past self.now) step.now }
+    {
+        self.kept.need(step)
+    }
+
+    /// There is room for a step that needs none.
+    pub fn keeps_room(&self, step: &Step)
+        requires allowed { Allowed self.now.layout (past self.now) step.now }
+        requires none { need self.now.layout self.now.items (past self.now) step.now ≡ 0 }
+        ensures { HasRoom self.now step.now }
+    {
+        self.kept.keeps_room(step);
+    }
+
+    /// Makes room for the step. It can't fail for one that needs none.
     pub fn reserve(&mut self, step: &Step) -> Result<(), NoMemory>
         requires { Allowed self.old.layout (past self.old) step.now }
-        ensures room { OnOk result (1 ≤ self.new.room) }
+        ensures room { OnOk result (HasRoom self.new step.now) }
+        ensures free { need self.old.layout self.old.items (past self.old) step.now ≡ 0 → IsOk result }
         ensures history { self.new.steps ≡ self.old.steps }
         ensures schema { self.new.layout ≡ self.old.layout }
         ensures items { self.new.items ≡ self.old.items }
     {
-        self.steps.reserve(1)?;
-        Ok(())
+        self.kept.reserve(step)
     }
 
-    /// Adds the step to the history.
+    /// Adds the step to the history. It takes no memory.
     pub fn push(&mut self, step: Step)
         requires allowed { Allowed self.old.layout (past self.old) step }
-        requires room { 1 ≤ self.old.room }
+        requires room { HasRoom self.old step }
         ensures pushed { self.new.steps ≡ self.old.steps ++ step ∷ [] }
         ensures schema { self.new.layout ≡ self.old.layout }
         ensures items { self.new.items ≡ self.old.items }
     {
-        note(&self.schema, &mut self.window, &step);
-        self.steps.push_reserved(step);
+        self.kept.push(step);
     }
 }

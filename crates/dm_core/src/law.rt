@@ -27,9 +27,9 @@ impl Model for Setting {
 }
 
 impl Law for Book {
-    ghost use Rattle.std.specs.Prelude.{◌≤◌};
     ghost use Rattle.dm_event.specs.Actors.{actors};
     ghost use Rattle.dm_core.specs.Lawful.{may_follow};
+    ghost use Rattle.dm_kept.specs.Roomy.{HasRoom};
 
     type Item = Step;
 
@@ -43,7 +43,7 @@ impl Law for Book {
 
     ghost may_follow = { may_follow };
 
-    ghost has_room = { λ b _. 1 ≤ b.room };
+    ghost has_room = { HasRoom };
 
     fn reserve(&mut self, step: &Step) -> Result<(), NoMemory> {
         Book::reserve(self, step)

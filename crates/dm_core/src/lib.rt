@@ -2,9 +2,10 @@
 #![tactic(auto)]
 
 mod book;
+mod counting;
+mod doubts;
 mod inside;
 mod law;
-mod noting;
 
 pub use book::Book;
 pub use dm_event::{Attempt, AttemptState, Placing};

@@ -14,7 +14,7 @@ use Rattle.dm_model.specs.Acts.{acts, acts_of}
 use Rattle.dm_model.specs.Doubts.{step_of, pending_at}
 use Rattle.dm_model.specs.Words.{latest}
 use Rattle.dm_report.specs.declared.moves.Move.{Move}
-use Rattle.dm_report.specs.Keeping.{kept_release, kept_move}
+use Rattle.dm_report.specs.Keeping.{kept_release, kept_move, where_kept}
 use Rattle.dm_report.specs.Moves.{released_by, moved, moves_by}
 use Rattle.dm_event.proofs.Backwards.{past_more}
 
@@ -99,3 +99,15 @@ module _ (steps : List Step) (i : ℕ) (s : Step) (o : Option Move) (h : i < len
       ∙ sym (append-nil (moves_to steps i))
       ∙ ap (λ (r : Option Move). moves_to steps i ++ option_to_list r) (sym is)
       ∙ sym moves_more
+
+-- what wasn't kept releases nothing and moves nothing
+pub release_where_kept : (part site : ℕ) (found : Found) (o : Option Pending) → kept_release part site found (where_kept found o) ≡ kept_release part site found o
+release_where_kept part site Kept o = refl
+release_where_kept part site Clean o = refl
+release_where_kept part site Lost o = refl
+
+pub move_where_kept : (before : List Step) (site : ℕ) (found : Found) (o : Option Pending) → kept_move before site found (where_kept found o)
+    ≡ kept_move before site found o
+move_where_kept before site Kept o = refl
+move_where_kept before site Clean o = refl
+move_where_kept before site Lost o = refl

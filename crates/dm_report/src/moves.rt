@@ -4,9 +4,10 @@ ghost use Rattle.std.specs.List.{cons_option};
 ghost use Rattle.std.specs.Prelude.{◌≡◌, ◌≤◌, ◌∷◌, length, reverse, take, Some, IfOk, option_copied};
 ghost use Rattle.dm_core.specs.Ledger.{past};
 ghost use Rattle.dm_model.specs.Acts.{acts, acts_of};
+ghost use Rattle.dm_model.specs.Doubts.{pending_at};
 ghost use Rattle.dm_model.specs.Words.{latest};
 ghost use Rattle.dm_report.specs.Moves.{released_by, giver, moved, moves_by};
-ghost use Rattle.dm_report.specs.Keeping.{kept_release, kept_move};
+ghost use Rattle.dm_report.specs.Keeping.{kept_release, kept_move, where_kept};
 ghost use Rattle.dm_report.specs.Rest.{move_text};
 
 use dm_core::Book;
@@ -39,6 +40,17 @@ impl fmt::Display for Move {
     }
 }
 
+/// The pending step of the site's last doubt before this place, where it was kept.
+fn doubted(book: &Book, place: usize, site: SiteNo, found: Found) -> Option<&Pending>
+    requires { place ≤ length book.now.steps }
+    ensures { option_copied result ≡ where_kept found (pending_at site (reverse (take place book.now.steps))) }
+{
+    match found {
+        Found::Kept => book.pending_before(place, site),
+        Found::Clean | Found::Lost => None,
+    }
+}
+
 /// The site, if the pending step that it kept releases the partition.
 fn kept_release(found: Found, pending: Option<&Pending>, site: SiteNo, part: Part) -> Option<SiteNo>
     ensures { result ≡ kept_release part site found (option_copied pending.entry) }
@@ -57,23 +69,27 @@ fn released(step: &Step, book: &Book, place: usize, part: Part) -> Option<SiteNo
     match step {
         Step::Release { site, part: of, .. } if *of == part => Some(*site),
         Step::Restart { site, found, .. } => {
-            kept_release(*found, book.pending_before(place, *site), *site, part)
+            kept_release(*found, doubted(book, place, *site, *found), *site, part)
         }
         _ => None,
     }
 }
 
-/// The site that released the partition last, before this place.
+/// The site that released the partition last, before this place. The steps from there to that release are
+/// looked at.
 fn giver(book: &Book, place: usize, part: Part) -> SiteNo
     requires { place ≤ length book.now.steps }
     ensures { result ≡ giver part (acts (reverse (take place book.now.steps))) }
 {
     let steps = book.steps();
-    let mut last = None;
-    for i in 0..place {
-        last = released(&steps[i], book, i, part).or(last);
+    let mut before = place;
+    while before > 0 {
+        before -= 1;
+        if let Some(site) = released(&steps[before], book, before, part) {
+            return site;
+        }
     }
-    last.unwrap_or(0)
+    0
 }
 
 /// The move that a grant at this place makes.
@@ -121,7 +137,7 @@ fn move_by(step: &Step, book: &Book, place: usize) -> Option<Move>
             ..
         } => Some(taken(book, place, *site, *part, *epoch)),
         Step::Restart { site, found, .. } => {
-            let pending = book.pending_before(place, *site);
+            let pending = doubted(book, place, *site, *found);
             kept_move(book, place, *found, pending, *site)
         }
         _ => None,

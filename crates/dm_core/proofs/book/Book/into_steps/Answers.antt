@@ -1,20 +1,24 @@
-use Rattle.std.proofs.Common.{ap, refl}
+use Rattle.std.proofs.Common.{ap}
 use Rattle.dm_core.specs.Ledger.{Ledger}
-use Rattle.dm_core.proofs.Kept.{kept_snapshot, kept_order, kept_sessions, kept_masters}
+use Rattle.dm_core.proofs.Kept.{kept_legal, kept_snapshot, kept_order, kept_sessions, kept_masters}
 use Rattle.dm_core.proofs.book.Book.into_steps.Goals as goal
 
+pub returns-clause-legal : goal.returns-clause-legal
+returns-clause-legal c = kept_legal c.self.inside.kept.layout c.args.self.layout c.self.inside.kept.steps c.into_steps.result.items c.is_legal.ensures.legal
+    (ap (λ (b : Ledger). b.layout) c.self.view_is) c.into_steps.ensures
+
 pub returns-clause-snapshot : goal.returns-clause-snapshot
-returns-clause-snapshot c = kept_snapshot c.self.inside.schema c.args.self.layout c.self.inside.steps.items c.self.inside.steps.items c.self.invariant.legal
-    (ap (λ (b : Ledger). b.layout) c.self.view_is) refl
+returns-clause-snapshot c = kept_snapshot c.self.inside.kept.layout c.args.self.layout c.self.inside.kept.steps c.into_steps.result.items c.is_legal.ensures.legal
+    (ap (λ (b : Ledger). b.layout) c.self.view_is) c.into_steps.ensures
 
 pub returns-clause-ordered : goal.returns-clause-ordered
-returns-clause-ordered c = kept_order c.self.inside.schema c.args.self.layout c.self.inside.steps.items c.self.inside.steps.items c.self.invariant.legal
-    (ap (λ (b : Ledger). b.layout) c.self.view_is) refl
+returns-clause-ordered c = kept_order c.self.inside.kept.layout c.args.self.layout c.self.inside.kept.steps c.into_steps.result.items c.is_legal.ensures.legal
+    (ap (λ (b : Ledger). b.layout) c.self.view_is) c.into_steps.ensures
 
 pub returns-clause-session_up : goal.returns-clause-session_up
-returns-clause-session_up c = kept_sessions c.self.inside.schema c.args.self.layout c.self.inside.steps.items c.self.inside.steps.items c.self.invariant.legal
-    (ap (λ (b : Ledger). b.layout) c.self.view_is) refl
+returns-clause-session_up c = kept_sessions c.self.inside.kept.layout c.args.self.layout c.self.inside.kept.steps c.into_steps.result.items c.is_legal.ensures.legal
+    (ap (λ (b : Ledger). b.layout) c.self.view_is) c.into_steps.ensures
 
 pub returns-clause-one_master : goal.returns-clause-one_master
-returns-clause-one_master c = kept_masters c.self.inside.schema c.args.self.layout c.self.inside.steps.items c.self.inside.steps.items c.self.invariant.legal
-    (ap (λ (b : Ledger). b.layout) c.self.view_is) refl
+returns-clause-one_master c = kept_masters c.self.inside.kept.layout c.args.self.layout c.self.inside.kept.steps c.into_steps.result.items c.is_legal.ensures.legal
+    (ap (λ (b : Ledger). b.layout) c.self.view_is) c.into_steps.ensures

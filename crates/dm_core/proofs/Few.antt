@@ -1,0 +1,36 @@
+-- What a history of few steps counts.
+use Rattle.std.proofs.Common.{ℕ, suc, ◌≤◌, ◌≡◌, Bool, true, false, if◌then◌else◌, List, [], ◌∷◌, length, refl, arith, ◌∙◌, inl, inr, nat_le, ap, sym}
+use Rattle.std.proofs.lemmas.Bool.{cases_eq, false≢true, and_from, le-leb}
+use Rattle.std.specs.List.{AllByRecursion as Each}
+use Rattle.dm_event.specs.Layout.{Layout, is_site}
+use Rattle.dm_event.specs.declared.step.Entry.{Entry}
+use Rattle.dm_event.specs.declared.step.Step.{Step}
+use Rattle.dm_model.proofs.LaggingRefresh.{Grounded, grounded_past}
+use Rattle.dm_model.proofs.Numbering.{count_other, count_at}
+use Rattle.dm_model.proofs.LegalSteps.{InRange}
+use Rattle.dm_model.specs.Acts.{entries}
+use Rattle.dm_model.specs.Attempts.{is_reply, replies}
+use Rattle.dm_model.specs.Legal.{LegalPast}
+use Rattle.dm_model.specs.Progress.{entry_count}
+
+pub few_replies : (session : ℕ) (past : List Step) → replies session past ≤ length past
+few_replies c [] = omega arith
+few_replies c (s ∷ past) = by (is_reply c s) (few_replies c past)
+  where
+    by : (b : Bool) → replies c past ≤ length past → (if b then suc (replies c past) else replies c past) ≤ suc (length past)
+    by true h = omega arith
+    by false h = omega (arith, h)
+
+-- what isn't a site has no entries
+pub strange_count : (layout : Layout) (past : List Step) (j : ℕ) → LegalPast layout past → is_site layout j ≡ false → entry_count j past ≡ 0
+strange_count layout past j h n = by (entries past) (grounded_past layout past h)
+  where
+    there : (site : ℕ) → InRange layout site → is_site layout site ≡ true
+    there site r = and_from (nat_le 1 site) (nat_le site layout.sites) (le-leb 1 site r.one) (le-leb site layout.sites r.top)
+
+    by : (es : List Entry) → Grounded layout es → count_at j es ≡ 0
+    by [] g = refl
+    by (e ∷ es) g = elim (cases_eq e.origin j) [
+      | inl p ↦ absurd (false≢true (sym n ∙ ap (is_site layout) (sym p) ∙ there e.origin g.0.site))
+      | inr ne ↦ count_other e es j ne ∙ by es g.1
+    ]

@@ -1,0 +1,12 @@
+pub mod Whereabouts
+pub mod Declaring
+pub mod Holding
+pub mod Aimed
+pub mod Counts
+pub mod Ranges
+pub mod Installing
+pub mod RunsKnown
+pub mod RoomKept
+pub mod Beginning
+pub mod KeptCount
+pub mod Roomier

@@ -1,0 +1,5 @@
+pub mod Ledger
+pub mod Finding
+pub mod Roomy
+pub mod KeptFields
+pub mod Telling
