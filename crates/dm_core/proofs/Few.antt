@@ -1,7 +1,6 @@
 -- What a history of few steps counts.
 use Rattle.std.proofs.Common.{ℕ, suc, ◌≤◌, ◌≡◌, Bool, true, false, if◌then◌else◌, List, [], ◌∷◌, length, refl, arith, ◌∙◌, inl, inr, nat_le, ap, sym}
 use Rattle.std.proofs.lemmas.Bool.{cases_eq, false≢true, and_from, le-leb}
-use Rattle.std.specs.List.{AllByRecursion as Each}
 use Rattle.dm_event.specs.Layout.{Layout, is_site}
 use Rattle.dm_event.specs.declared.step.Entry.{Entry}
 use Rattle.dm_event.specs.declared.step.Step.{Step}
