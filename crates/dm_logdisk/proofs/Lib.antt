@@ -1,0 +1,4 @@
+pub mod Images
+pub mod Pushed
+pub mod Picked
+pub mod Replayed
