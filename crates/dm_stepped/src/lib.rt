@@ -1,13 +1,8 @@
-//! What is kept of a history beside its steps, after steps that were worked out by hand.
+//! What is kept of a history beside its steps, after steps that were worked out by hand: each function that allocates once, with ample
+//! memory.
 #![tactic(auto)]
 
 #[cfg(test)]
-mod aims;
+mod kept;
 #[cfg(test)]
-mod indexes;
-#[cfg(test)]
-mod numbers;
-#[cfg(test)]
-mod runs;
-#[cfg(test)]
-mod states;
+mod steps;

@@ -1,12 +1,11 @@
-//! What the leaves answer, from events to files: each function that allocates at least once, beside answers that were worked out by hand.
+//! What the leaves answer, from bodies to files: each function that allocates once, with ample memory, beside an answer that was worked out
+//! by hand; and the worked rows of the stores and the lock tables.
 #![tactic(auto)]
 
 #[cfg(test)]
 mod bodies;
 #[cfg(test)]
 mod disks;
-#[cfg(test)]
-mod events;
 #[cfg(test)]
 mod locks;
 #[cfg(test)]

@@ -1,4 +1,4 @@
-//! Tables whose answers are known.
+//! A table whose answers are known.
 
 ghost use Rattle.std.specs.Prelude.{◌≡◌, IsSome, IsTrue};
 ghost use Rattle.dm_locks.specs.Claims.{claim_of};
@@ -6,15 +6,14 @@ ghost use Rattle.dm_locks.specs.Claims.{claim_of};
 use dm_event::{Key, Keys, TxnId};
 use dm_locks::{LockAnswer, LockTable};
 use std::alloc::Global;
-use std::process::Abort;
 use std::test::Fail;
 
-/// The sessions of the worked examples.
-const A: u32 = 1;
-
-const B: u32 = 2;
-
-const C: u32 = 3;
+/// What the session's transaction does.
+enum Deed {
+    Asks(&'static [Key]),
+    Polls,
+    GivesBack,
+}
 
 fn txn(session: u32) -> TxnId
     ensures { result.session ≡ session }
@@ -24,10 +23,6 @@ fn txn(session: u32) -> TxnId
         number: 1,
         attempt: 1,
     }
-}
-
-fn waits(by: u32, key: Key) -> LockAnswer {
-    LockAnswer::Waits { by: txn(by), key }
 }
 
 /// Whether the transaction waits.
@@ -40,65 +35,76 @@ fn is_waiting(table: &LockTable, txn: TxnId) -> bool
     }
 }
 
-/// Asks for the session, which is to have no claim.
-fn ask(
-    rt: &impl Abort,
-    alloc: Global,
-    table: &mut LockTable,
-    session: u32,
-    keys: &[Key],
-) -> Result<LockAnswer, Fail> {
-    let keys = Keys::new(Vec::from_slice(alloc, keys)?).ok_or("a key stands twice")?;
-    assert!(rt; 1 <= session && session <= 32);
-    let free = table.may_ask(session);
-    assert!(rt; free);
-    Ok(table.ask(txn(session), keys))
+/// The answer to the session, where it may ask.
+fn ask(alloc: Global, table: &mut LockTable, session: u32, keys: &[Key]) -> Option<LockAnswer> {
+    let keys = Keys::new(Vec::from_slice(alloc, keys).ok()?)?;
+    if 1 <= session && session <= 32 && table.may_ask(session) {
+        Some(table.ask(txn(session), keys))
+    } else {
+        None
+    }
 }
 
-/// Polls for the session, which is to wait.
-fn poll(rt: &impl Abort, table: &mut LockTable, session: u32) -> LockAnswer {
+/// The answer to the session, where it waits.
+fn poll(table: &mut LockTable, session: u32) -> Option<LockAnswer> {
     let by = txn(session);
-    let waits = is_waiting(table, by);
-    assert!(rt; waits);
-    table.poll(by)
+    if is_waiting(table, by) {
+        Some(table.poll(by))
+    } else {
+        None
+    }
 }
+
+const GOT: Option<LockAnswer> = Some(LockAnswer::Got);
+
+/// Session 1 has key 3 too.
+const BEHIND_1: Option<LockAnswer> = Some(LockAnswer::Waits {
+    by: TxnId {
+        session: 1,
+        number: 1,
+        attempt: 1,
+    },
+    key: 3,
+});
+
+/// Session 2 has key 4 too.
+const BEHIND_2: Option<LockAnswer> = Some(LockAnswer::Waits {
+    by: TxnId {
+        session: 2,
+        number: 1,
+        attempt: 1,
+    },
+    key: 4,
+});
+
+/// The session, what it does, and what it is answered.
+const DEEDS: &[(u32, Deed, Option<LockAnswer>)] = &[
+    (1, Deed::Asks(&[3]), GOT),
+    (2, Deed::Asks(&[4, 3]), BEHIND_1),
+    (3, Deed::Asks(&[4]), BEHIND_2),
+    (1, Deed::Polls, None),
+    (1, Deed::GivesBack, None),
+    (3, Deed::Polls, BEHIND_2),
+    (2, Deed::Polls, GOT),
+    (3, Deed::Polls, BEHIND_2),
+    (2, Deed::GivesBack, None),
+    (3, Deed::Polls, GOT),
+    (3, Deed::Asks(&[]), None),
+];
 
 #[test]
 fn nobody_overtakes_an_earlier_waiter(rt: HostRuntime) -> Result<(), Fail> {
-    let alloc = rt.alloc();
-    let mut table = LockTable::new(alloc)?;
-    assert_eq!(rt; ask(&rt, alloc, &mut table, A, &[3])?, LockAnswer::Got);
-    assert_eq!(rt; ask(&rt, alloc, &mut table, B, &[3, 4])?, waits(A, 3));
-    assert_eq!(rt; ask(&rt, alloc, &mut table, C, &[4])?, waits(B, 4));
-    assert!(rt; table.holds(txn(A)) && !table.holds(txn(B)) && !table.holds(txn(C)));
-    assert_eq!(rt; table.waiter(C), Some(txn(C)));
-    table.give_back(txn(A));
-    assert_eq!(rt; poll(&rt, &mut table, C), waits(B, 4));
-    assert_eq!(rt; poll(&rt, &mut table, B), LockAnswer::Got);
-    assert_eq!(rt; table.waiter(B), None);
-    assert_eq!(rt; poll(&rt, &mut table, C), waits(B, 4));
-    table.give_back(txn(B));
-    assert_eq!(rt; poll(&rt, &mut table, C), LockAnswer::Got);
-    assert!(rt; table.holds(txn(C)) && !table.holds(txn(B)));
-    Ok(())
-}
-
-#[test]
-fn thirty_two_sessions_in_a_chain(rt: HostRuntime) -> Result<(), Fail> {
-    let alloc = rt.alloc();
-    let mut table = LockTable::new(alloc)?;
-    assert_eq!(rt; ask(&rt, alloc, &mut table, 1, &[2, 1])?, LockAnswer::Got);
-    for session in 2..33 {
-        let answer = ask(&rt, alloc, &mut table, session, &[session + 1, session])?;
-        assert_eq!(rt; answer, waits(session - 1, session));
+    let mut table = LockTable::new(rt.alloc())?;
+    for (session, deed, due) in DEEDS {
+        let answer = match deed {
+            Deed::Asks(keys) => ask(rt.alloc(), &mut table, *session, keys),
+            Deed::Polls => poll(&mut table, *session),
+            Deed::GivesBack => {
+                table.give_back(txn(*session));
+                None
+            }
+        };
+        assert_eq!(rt; answer, *due);
     }
-    for session in 2..33 {
-        assert_eq!(rt; poll(&rt, &mut table, session), waits(session - 1, session));
-        table.give_back(txn(session - 1));
-        assert_eq!(rt; poll(&rt, &mut table, session), LockAnswer::Got);
-    }
-    table.clear();
-    assert_eq!(rt; ask(&rt, alloc, &mut table, A, &[])?, LockAnswer::Got);
-    assert_eq!(rt; ask(&rt, alloc, &mut table, 32, &[33])?, LockAnswer::Got);
     Ok(())
 }
