@@ -1,7 +1,7 @@
 //! The history so far, and what it says.
 
 ghost use Rattle.std.specs.List.{list_all};
-ghost use Rattle.std.specs.Prelude.{ℕ, ◌≡◌, ◌<◌, ◌≤◌, ◌^◌, ◌↔◌, ◌++◌, ◌∷◌, [], true, false, None, Some, length, IfOk, IfSome, IsOk, IsNone, OnOk, OnErr, MatchResult, option_copied, reverse, take};
+ghost use Rattle.std.specs.Prelude.{ℕ, ◌≡◌, ◌<◌, ◌≤◌, ◌^◌, ◌↔◌, ◌++◌, ◌∷◌, [], true, false, None, Some, length, IfOk, IfSome, IsNone, OnOk, OnErr, MatchResult, option_copied, reverse, take};
 ghost use Rattle.dm_event.specs.Layout.{is_key, is_site};
 ghost use Rattle.dm_core.specs.Ledger.{past};
 ghost use Rattle.dm_model.specs.Acts.{entry_at};
@@ -330,11 +330,11 @@ impl Book {
         self.kept.keeps_room(step);
     }
 
-    /// Makes room for the step. It can't fail for one that needs none.
+    /// Makes room for the step.
     pub fn reserve(&mut self, step: &Step) -> Result<(), NoMemory>
         requires { Allowed self.old.layout (past self.old) step.now }
         ensures room { OnOk result (HasRoom self.new step.now) }
-        ensures free { need self.old.layout self.old.items (past self.old) step.now ≡ 0 → IsOk result }
+        ensures allowed { Allowed self.new.layout (past self.new) step.now }
         ensures history { self.new.steps ≡ self.old.steps }
         ensures schema { self.new.layout ≡ self.old.layout }
         ensures items { self.new.items ≡ self.old.items }
