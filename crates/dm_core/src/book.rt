@@ -5,7 +5,7 @@ ghost use Rattle.std.specs.Prelude.{ℕ, ◌≡◌, ◌<◌, ◌≤◌, ◌^◌,
 ghost use Rattle.dm_event.specs.Layout.{is_key, is_site};
 ghost use Rattle.dm_core.specs.Ledger.{past};
 ghost use Rattle.dm_model.specs.Acts.{entry_at};
-ghost use Rattle.dm_model.specs.Allowed.{Allowed, next_refresh, refusal, runner};
+ghost use Rattle.dm_model.specs.Allowed.{Allowed, next_refresh, refusal, runner, with_kept};
 ghost use Rattle.dm_model.specs.Attempts.{attempt, declared, replies, routes, wanted_keys, wants_txn};
 ghost use Rattle.dm_model.specs.Choices.{choice_due};
 ghost use Rattle.dm_model.specs.Doubts.{is_down, pending_at};
@@ -26,7 +26,7 @@ ghost use Rattle.dm_store.specs.Histories.{committed_inside};
 use crate::inside::inside;
 use crate::noting::note;
 use dm_event::{
-    Attempt, Choice, Entry, Key, MAX_SESSIONS, NoMemory, Part, Pending, Placing, Said, Schema,
+    Attempt, Choice, Entry, Found, Key, MAX_SESSIONS, NoMemory, Part, Pending, Placing, Said, Schema,
     SiteNo, Step, TxnId, Value, Vector, Want, Why,
 };
 use dm_listed::Listed;
@@ -155,6 +155,13 @@ impl Book {
         ensures { result ≡ floor self.now.layout.sites (past self.now) site }
     {
         dm_plain::floor(&self.schema, &self.steps, site)
+    }
+
+    /// The site's floor, with the step counted that a restart finds kept in its log.
+    pub fn floor_with_kept(&self, site: SiteNo, found: Found) -> Vector
+        ensures { result ≡ floor self.now.layout.sites (with_kept site found (past self.now)) site }
+    {
+        dm_plain::floor_with_kept(&self.schema, &self.steps, site, found)
     }
 
     /// How many committed update transactions the origin has.
