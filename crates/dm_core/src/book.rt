@@ -26,8 +26,8 @@ ghost use Rattle.dm_store.specs.Histories.{committed_inside};
 use crate::inside::inside;
 use crate::noting::note;
 use dm_event::{
-    Attempt, Choice, Entry, Found, Key, MAX_SESSIONS, NoMemory, Part, Pending, Placing, Said, Schema,
-    SiteNo, Step, TxnId, Value, Vector, Want, Why,
+    Attempt, Choice, Entry, Found, Key, MAX_SESSIONS, NoMemory, Part, Pending, Placing, Said,
+    Schema, SiteNo, Step, TxnId, Value, Vector, Want, Why,
 };
 use dm_listed::Listed;
 use dm_model::refreshes_reach_full;
