@@ -1,4 +1,4 @@
-//! What is printed, beside texts that were written by hand: of steps, reasons and histories that no step file can bring about yet, and by commands
+//! What is printed, beside texts that were written by hand: of steps, reasons and histories, also such as no step file brings about, and by commands
 //! that end in each status.
 #![tactic(auto)]
 

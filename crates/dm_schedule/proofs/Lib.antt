@@ -1,5 +1,3 @@
-pub mod Declared
-pub mod Steps
 pub mod Keeps
 pub mod Lines
 pub mod Begins

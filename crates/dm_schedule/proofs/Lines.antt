@@ -2,7 +2,7 @@
 use Rattle.std.proofs.Common.{◌≡◌, ◌∙◌, ap, sym, ℕ, ◌+◌, ◌<◌, ◌≤◌, List, [], ◌∷◌, ◌++◌, length, get_or, drop, refl, append_assoc, add-one, drop-cons}
 use Rattle.std.proofs.lemmas.List.{drop_all}
 use Rattle.dm_schedule.specs.Drive.{Drive, driven, by_line, answer_of}
-use Rattle.dm_schedule.specs.declared.line.Line.{Line}
+use Rattle.dm_lines.specs.declared.line.Line.{Line}
 
 -- what the lines from i on bring is what line i brings and then the lines behind it
 module _ (d next : Drive) (lines : List Line) (i : ℕ) (line : Line) (lt : i < length lines) (at : line ≡ get_or lines i line) (does : next ≡ (by_line d line).0)

@@ -15,6 +15,7 @@ answer_text past (answers.Routed txn site choice) =
     codes "routed " ++ (txn_text txn ++ (codes " to " ++ (decimal site ++ (codes " " ++ (choice_text choice ++ codes "\n")))))
 answer_text past (answers.Begun txn site begin) =
     codes "begun " ++ (txn_text txn ++ (codes " at " ++ (decimal site ++ (codes " " ++ (vector_text begin ++ codes "\n")))))
+answer_text past (answers.Moved txn) = codes "moved " ++ (txn_text txn ++ codes "\n")
 answer_text past (answers.Value value) = codes "value " ++ (signed_decimal value ++ codes "\n")
 answer_text past answers.Put = codes "put\n"
 answer_text past answers.Added = codes "added\n"
@@ -22,6 +23,16 @@ answer_text past (answers.Committed site seq vector) =
     codes "committed " ++ (decimal site ++ (codes "." ++ (decimal seq ++ (codes " " ++ (vector_text vector ++ codes "\n")))))
 answer_text past (answers.Ended begin) = codes "ended " ++ (vector_text begin ++ codes "\n")
 answer_text past (answers.Replied session number said) = reply_text past session number said
+answer_text past answers.Failed = codes "failed\n"
 answer_text past (answers.Refreshed site vector) = codes "refreshed " ++ (decimal site ++ (codes " " ++ (vector_text vector ++ codes "\n")))
+answer_text past (answers.Asked part epoch to) =
+    codes "asked " ++ (decimal part ++ (codes " epoch " ++ (decimal epoch ++ (codes " to " ++ (decimal to ++ codes "\n")))))
+answer_text past (answers.Released part epoch vector) =
+    codes "released " ++ (decimal part ++ (codes " epoch " ++ (decimal epoch ++ (codes " " ++ (vector_text vector ++ codes "\n")))))
+answer_text past (answers.Granted part epoch to) =
+    codes "granted " ++ (decimal part ++ (codes " epoch " ++ (decimal epoch ++ (codes " to " ++ (decimal to ++ codes "\n")))))
+answer_text past (answers.Settled part epoch) = codes "settled " ++ (decimal part ++ (codes " epoch " ++ (decimal epoch ++ codes "\n")))
+answer_text past (answers.Doubted site) = codes "doubt at " ++ (decimal site ++ codes "\n")
+answer_text past (answers.Restarted site vector) = codes "restarted " ++ (decimal site ++ (codes " " ++ (vector_text vector ++ codes "\n")))
 answer_text past (answers.Refused why) = codes "refused " ++ (why_text why ++ codes "\n")
 answer_text past answers.RefusedOps = codes "refused ops\n"

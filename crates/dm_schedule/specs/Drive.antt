@@ -1,28 +1,38 @@
 -- The drive of a history by the command lines of a step file.
-use Rattle.std.specs.Prelude.{ℕ, ◌+◌, ◌-◌, ◌==◌, Bool, if◌then◌else◌, List, [], ◌∷◌, ◌++◌, length, replicate, reverse, slice_index_or, slice_set, Option, Some}
+use Rattle.std.specs.Prelude.{ℕ, ◌+◌, ◌-◌, ◌==◌, Bool, true, false, if◌then◌else◌, List, [], ◌∷◌, ◌++◌, length, replicate, reverse, slice_index_or, slice_set, Option, Some}
 use Rattle.std.specs.Prelude.{None, option_map, ℤ}
+use Rattle.dm_clauses.specs.Judging.{epoch_now}
 use Rattle.dm_event.specs.Entries.{commit_vector}
 use Rattle.dm_event.specs.Layout.{Layout}
 use Rattle.dm_event.specs.declared.attempt.AttemptState.{AttemptState}
 use Rattle.dm_event.specs.declared.attempt.AttemptState.TheVariants as stands
 use Rattle.dm_event.specs.declared.limits.TheConstants.{MAX_OPS, MAX_SESSIONS}
+use Rattle.dm_event.specs.declared.placing.Placing.{Placing}
+use Rattle.dm_event.specs.declared.placing.Placing.TheVariants as placings
+use Rattle.dm_event.specs.declared.step.Cause.{Cause}
+use Rattle.dm_event.specs.declared.step.Cause.TheVariants as causes
 use Rattle.dm_event.specs.declared.step.Choice.{Choice}
 use Rattle.dm_event.specs.declared.step.Choice.TheVariants.{Hand}
 use Rattle.dm_event.specs.declared.step.Entry.{Entry}
+use Rattle.dm_event.specs.declared.step.Found.{Found}
 use Rattle.dm_event.specs.declared.step.Op.{Op}
 use Rattle.dm_event.specs.declared.step.Op.TheVariants as ops
+use Rattle.dm_event.specs.declared.step.Pending.{Pending}
+use Rattle.dm_event.specs.declared.step.Pending.TheVariants as pending
 use Rattle.dm_event.specs.declared.step.Said.{Said}
 use Rattle.dm_event.specs.declared.step.Step.{Step}
-use Rattle.dm_event.specs.declared.step.Step.TheVariants.{Route, Begin, Commit, End, Refresh, Reply}
+use Rattle.dm_event.specs.declared.step.Step.TheVariants.{Route, Reply, Ask, Settle, Begin, Moved, Commit, End, Fail, Refresh, Release, Grant, Doubt, Restart}
 use Rattle.dm_event.specs.declared.step.TxnId.{TxnId}
 use Rattle.dm_event.specs.declared.step.Want.{Want}
 use Rattle.dm_event.specs.declared.why.Why.{Why}
 use Rattle.dm_event.specs.declared.why.Why.TheVariants as why
-use Rattle.dm_model.specs.Allowed.{refusal}
+use Rattle.dm_model.specs.Allowed.{refusal, with_kept}
 use Rattle.dm_model.specs.Attempts.{attempt, declared, replies, routes, wanted_keys}
 use Rattle.dm_model.specs.Bodies.{has_writes, ran_at, read_value}
 use Rattle.dm_model.specs.Choices.{choice_due}
+use Rattle.dm_model.specs.Floors.{floor}
 use Rattle.dm_model.specs.Outcomes.{said_due}
+use Rattle.dm_model.specs.Placings.{placing}
 use Rattle.dm_model.specs.Progress.{entry_count, site_vector}
 use Rattle.dm_model.specs.Runs.{begin_vector}
 use Rattle.dm_model.specs.Sessions.{session_vector}
@@ -32,8 +42,8 @@ use Rattle.dm_schedule.specs.Answers.{answer_text}
 use Rattle.dm_schedule.specs.declared.answer.Answer.{Answer}
 use Rattle.dm_schedule.specs.declared.answer.Answer.TheVariants as answers
 use Rattle.dm_schedule.specs.declared.driver.Run.{Run}
-use Rattle.dm_schedule.specs.declared.line.Line.{Line}
-use Rattle.dm_schedule.specs.declared.line.Line.TheVariants as lines
+use Rattle.dm_lines.specs.declared.line.Line.{Line}
+use Rattle.dm_lines.specs.declared.line.Line.TheVariants as lines
 
 -- what the schema says, the history with the earliest step first, and for each session the ops that its attempt has done
 pub record Drive : Type 0 where
@@ -97,6 +107,16 @@ routed_at txn state = None
 unfoldable pub routed_of : Drive → ℕ → Option (TxnId × ℕ)
 routed_of d c = routed_at (attempt c (past d)).txn (attempt c (past d)).state
 
+-- an attempt that stands routed or runs, with its site
+abbrev pub live_at : Option TxnId → AttemptState → Option (TxnId × ℕ)
+live_at (Some txn) (stands.Routed site choice) = Some (txn, site)
+live_at (Some txn) (stands.Running site) = Some (txn, site)
+live_at txn state = None
+
+-- the same of the session's
+unfoldable pub live_of : Drive → ℕ → Option (TxnId × ℕ)
+live_of d c = live_at (attempt c (past d)).txn (attempt c (past d)).state
+
 -- an attempt that runs, with its site and its begin vector, where the function gives those
 abbrev pub running_at : (TxnId → Option (List ℕ)) → Option TxnId → AttemptState → Option Run
 running_at begun (Some txn) (stands.Running site) = option_map (λ begin. record { txn = txn; site = site; begin = begin }) (begun txn)
@@ -132,6 +152,17 @@ entry_due d c run =
 unfoldable pub end_due : Drive → ℕ → Run → Step
 end_due d c run = End run.site run.txn (ops_of d c) (ran_at d.layout (past d) run.begin (ops_of d c)).reads
 
+-- the site and the choice that are due for a transaction with these keys
+unfoldable pub site_due : Drive → ℕ → List ℕ → ℕ × Choice
+site_due d c keys = choice_due d.layout (past d) c keys
+
+unfoldable pub placing_of : Drive → ℕ → Placing
+placing_of d part = placing d.layout (past d) part
+
+-- the vector of a Restart: the site's floor, with a pending step that was kept
+unfoldable pub floor_due : Drive → ℕ → Found → List ℕ
+floor_due d site found = floor d.layout.sites (with_kept site found (past d)) site
+
 unfoldable pub outcome_due : Drive → ℕ → Option Said
 outcome_due d c = said_due d.layout (past d) c
 
@@ -142,12 +173,25 @@ route_line d c want site choice =
     let step = Route (next_txn d c) want (least_due d c) site choice in
     judged (refusal_of d step) d (extended d step) (answers.Routed (next_txn d c) site choice)
 
+-- the attempt finds that the site may not begin on one of its partitions
+abbrev pub moved_line : Drive → TxnId × ℕ → Drive × Answer
+moved_line d at = judged (refusal_of d (Moved at.1 at.0)) d (extended d (Moved at.1 at.0)) (answers.Moved at.0)
+
+unfoldable pub is_elsewhere : Why → Bool
+is_elsewhere (why.Elsewhere part) = true
+is_elsewhere reason = false
+
+-- what comes of a Begin that brings this drive and this answer, if nothing refuses it
+abbrev pub began : Option Why → Drive → Drive × Answer → TxnId × ℕ → Drive × Answer
+began None d begun at = begun
+began (Some reason) d begun at = if is_elsewhere reason then moved_line d at else (d, answers.Refused reason)
+
 -- a new attempt has done no ops
 abbrev pub begin_line : Drive → ℕ → Option (TxnId × ℕ) → Drive × Answer
 begin_line d c None = (d, answers.Refused why.NotRouted)
 begin_line d c (Some at) =
     let step = Begin at.1 at.0 (vector_of d at.1) in
-    judged (refusal_of d step) d (with_ops (extended d step) c []) (answers.Begun at.0 at.1 (vector_of d at.1))
+    began (refusal_of d step) d (with_ops (extended d step) c [], answers.Begun at.0 at.1 (vector_of d at.1)) at
 
 abbrev pub get_line : Drive → ℕ → ℕ → Option Run → Drive × Answer
 get_line d c key None = (d, answers.Refused why.NotRunning)
@@ -179,22 +223,89 @@ reply_line d c number None = (d, answers.Refused why.WrongSaid)
 reply_line d c number (Some said) =
     judged (refusal_of d (Reply c number said)) d (extended d (Reply c number said)) (answers.Replied c number said)
 
+abbrev pub cause_at : ℕ → Bool → Cause
+cause_at site true = causes.Memory
+cause_at site false = causes.Log site
+
+abbrev pub fail_line : Drive → Bool → Option (TxnId × ℕ) → Drive × Answer
+fail_line d memory None = (d, answers.Refused why.NotRunning)
+fail_line d memory (Some at) =
+    let step = Fail at.1 at.0 (cause_at at.1 memory) in
+    judged (refusal_of d step) d (extended d step) answers.Failed
+
 abbrev pub refresh_line : Drive → ℕ → ℕ → Drive × Answer
 refresh_line d site origin =
     let next = extended d (Refresh site origin) in
     judged (refusal_of d (Refresh site origin)) d next (answers.Refreshed site (vector_of next site))
 
+-- an attempt that stands routed asks for the partition, to the site of its Route
+abbrev pub ask_line : Drive → ℕ → ℕ → Option (TxnId × ℕ) → Drive × Answer
+ask_line d part epoch None = (d, answers.Refused why.NotRouted)
+ask_line d part epoch (Some at) =
+    judged (refusal_of d (Ask part epoch at.1 at.0)) d (extended d (Ask part epoch at.1 at.0)) (answers.Asked part epoch at.1)
+
+-- the master gives the partition up, at its own vector
+abbrev pub release_line : Drive → ℕ → Placing → Drive × Answer
+release_line d part (placings.Asked site epoch to) =
+    let step = Release site part epoch to (vector_of d site) in
+    judged (refusal_of d step) d (extended d step) (answers.Released part epoch (vector_of d site))
+release_line d part other = (d, answers.Refused why.NotAsked)
+
+-- the next epoch begins at the site to which it was released
+abbrev pub grant_line : Drive → ℕ → Placing → Drive × Answer
+grant_line d part (placings.Between site epoch to vector) =
+    let step = Grant to part (epoch + 1) vector in
+    judged (refusal_of d step) d (extended d step) (answers.Granted part (epoch + 1) to)
+grant_line d part other = (d, answers.Refused why.NotReleased)
+
+abbrev pub settle_line : Drive → ℕ → Placing → Drive × Answer
+settle_line d part (placings.Granted site epoch) =
+    judged (refusal_of d (Settle part epoch)) d (extended d (Settle part epoch)) (answers.Settled part epoch)
+settle_line d part other = (d, answers.Refused why.NotGranted)
+
+-- the site goes down over a step that is pending
+abbrev pub doubted : Drive → ℕ → Pending → Drive × Answer
+doubted d site step = judged (refusal_of d (Doubt site step)) d (extended d (Doubt site step)) (answers.Doubted site)
+
+-- the steps of which a site can be in doubt are those that would be due
+
+abbrev pub doubt_commit_line : Drive → ℕ → Option Run → Drive × Answer
+doubt_commit_line d c None = (d, answers.Refused why.NotRunning)
+doubt_commit_line d c (Some run) = doubted d run.site (pending.Commit (entry_due d c run))
+
+abbrev pub doubt_release_line : Drive → ℕ → Placing → Drive × Answer
+doubt_release_line d part (placings.Asked site epoch to) = doubted d site (pending.Release part epoch to (vector_of d site))
+doubt_release_line d part other = (d, answers.Refused why.NotAsked)
+
+abbrev pub doubt_grant_line : Drive → ℕ → Placing → Drive × Answer
+doubt_grant_line d part (placings.Between site epoch to vector) = doubted d to (pending.Grant part (epoch + 1) vector)
+doubt_grant_line d part other = (d, answers.Refused why.NotReleased)
+
+abbrev pub restart_line : Drive → ℕ → Found → Drive × Answer
+restart_line d site found =
+    let step = Restart site (floor_due d site found) found in
+    judged (refusal_of d step) d (extended d step) (answers.Restarted site (floor_due d site found))
+
 -- what a command line brings, and its answer
 unfoldable pub by_line : Drive → Line → Drive × Answer
 by_line d (lines.Route c want (Some site)) = route_line d c want site Hand
-by_line d (lines.Route c want None) = let due = choice_due d.layout (past d) c (wanted_keys want) in route_line d c want due.0 due.1
+by_line d (lines.Route c want None) = let due = site_due d c (wanted_keys want) in route_line d c want due.0 due.1
 by_line d (lines.Begin c) = begin_line d c (routed_of d c)
 by_line d (lines.Get c key) = get_line d c key (running_of d c)
 by_line d (lines.Put c key value) = write_line d c key (ops.Write key value) answers.Put (running_of d c)
 by_line d (lines.Add c key by) = write_line d c key (ops.Add key by) answers.Added (running_of d c)
 by_line d (lines.Commit c) = commit_line d c (running_of d c)
 by_line d (lines.Reply c) = reply_line d c (next_txn d c).number (outcome_due d c)
+by_line d (lines.Fail c memory) = fail_line d memory (live_of d c)
 by_line d (lines.Refresh site origin) = refresh_line d site origin
+by_line d (lines.Ask part c) = ask_line d part (epoch_now (placing_of d part)) (routed_of d c)
+by_line d (lines.Release part) = release_line d part (placing_of d part)
+by_line d (lines.Grant part) = grant_line d part (placing_of d part)
+by_line d (lines.Settle part) = settle_line d part (placing_of d part)
+by_line d (lines.DoubtCommit c) = doubt_commit_line d c (running_of d c)
+by_line d (lines.DoubtRelease part) = doubt_release_line d part (placing_of d part)
+by_line d (lines.DoubtGrant part) = doubt_grant_line d part (placing_of d part)
+by_line d (lines.Restart site found) = restart_line d site found
 
 -- the text of the answer
 unfoldable pub answer_of : Drive × Answer → List ℕ

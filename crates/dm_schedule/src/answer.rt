@@ -7,7 +7,7 @@ ghost use Rattle.dm_schedule.specs.Answers.{answer_text};
 ghost use Rattle.dm_text.specs.Text.{Appends};
 
 use dm_core::Book;
-use dm_event::{Choice, NoMemory, Said, SiteNo, TxnId, Value, Vector, Why};
+use dm_event::{Choice, NoMemory, Part, Said, SiteNo, TxnId, Value, Vector, Why};
 use dm_history::{ChoiceText, put_why};
 use dm_report::put_reply;
 use dm_text::{TxnText, VectorText, put_text};
@@ -25,6 +25,9 @@ pub(crate) enum Answer {
         txn: TxnId,
         site: SiteNo,
         begin: Vector,
+    },
+    Moved {
+        txn: TxnId,
     },
     Value {
         value: Value,
@@ -45,9 +48,37 @@ pub(crate) enum Answer {
         number: u32,
         said: Said,
     },
+    Failed,
     Refreshed {
         site: SiteNo,
         /// The site's vector with the transaction.
+        vector: Vector,
+    },
+    Asked {
+        part: Part,
+        epoch: u64,
+        to: SiteNo,
+    },
+    Released {
+        part: Part,
+        epoch: u64,
+        vector: Vector,
+    },
+    Granted {
+        part: Part,
+        /// The new epoch.
+        epoch: u64,
+        to: SiteNo,
+    },
+    Settled {
+        part: Part,
+        epoch: u64,
+    },
+    Doubted {
+        site: SiteNo,
+    },
+    Restarted {
+        site: SiteNo,
         vector: Vector,
     },
     /// Why the line's step may not come.
@@ -89,6 +120,10 @@ pub(crate) fn put_answer(
             let begin = VectorText(&begin);
             put_text(out, &format!(in alloc; "begun {txn} at {site} {begin}\n")?)
         }
+        Answer::Moved { txn } => {
+            let txn = TxnText(&txn);
+            put_text(out, &format!(in alloc; "moved {txn}\n")?)
+        }
         Answer::Value { value } => put_text(out, &format!(in alloc; "value {value}\n")?),
         Answer::Put => put_text(out, "put\n"),
         Answer::Added => put_text(out, "added\n"),
@@ -108,9 +143,38 @@ pub(crate) fn put_answer(
             number,
             said,
         } => put_reply(alloc, out, book, session, number, &said),
+        Answer::Failed => put_text(out, "failed\n"),
         Answer::Refreshed { site, vector } => {
             let vector = VectorText(&vector);
             put_text(out, &format!(in alloc; "refreshed {site} {vector}\n")?)
+        }
+        Answer::Asked { part, epoch, to } => put_text(
+            out,
+            &format!(in alloc; "asked {part} epoch {epoch} to {to}\n")?,
+        ),
+        Answer::Released {
+            part,
+            epoch,
+            vector,
+        } => {
+            let vector = VectorText(&vector);
+            put_text(
+                out,
+                &format!(in alloc; "released {part} epoch {epoch} {vector}\n")?,
+            )
+        }
+        Answer::Granted { part, epoch, to } => put_text(
+            out,
+            &format!(in alloc; "granted {part} epoch {epoch} to {to}\n")?,
+        ),
+        Answer::Settled { part, epoch } => put_text(
+            out,
+            &format!(in alloc; "settled {part} epoch {epoch}\n")?,
+        ),
+        Answer::Doubted { site } => put_text(out, &format!(in alloc; "doubt at {site}\n")?),
+        Answer::Restarted { site, vector } => {
+            let vector = VectorText(&vector);
+            put_text(out, &format!(in alloc; "restarted {site} {vector}\n")?)
         }
         Answer::Refused(why) => put_refused(alloc, out, &why),
         Answer::RefusedOps => put_text(out, "refused ops\n"),

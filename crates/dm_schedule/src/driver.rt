@@ -6,14 +6,17 @@ ghost use Rattle.dm_event.specs.declared.step.Step.TheVariants as steps;
 ghost use Rattle.dm_model.specs.Bodies.{has_writes, ran_at};
 ghost use Rattle.dm_model.specs.Shape.{is_shaped};
 ghost use Rattle.dm_model.specs.Values.{value};
-ghost use Rattle.dm_schedule.specs.Drive.{start, past, refusal_of, pushed, extended, with_ops, ops_of, routed_of, running_of};
+ghost use Rattle.dm_schedule.specs.Drive.{start, past, refusal_of, pushed, extended, with_ops, ops_of, routed_of, running_of, placing_of};
 ghost use Rattle.dm_schedule.specs.Drivers.{is_begin, unless};
-ghost use Rattle.dm_schedule.specs.Ranges.{IsSession};
+ghost use Rattle.dm_clauses.specs.Judging.{epoch_now};
+ghost use Rattle.dm_lines.specs.Ranges.{IsPart, IsSession};
 
 use crate::view::At;
 use dm_body::{OpResult, Overlay, Ran, has_writes};
 use dm_core::Book;
-use dm_event::{MAX_OPS, MAX_SESSIONS, NoMemory, Op, Schema, SiteNo, Step, TxnId, Vector, Why};
+use dm_event::{
+    MAX_OPS, MAX_SESSIONS, NoMemory, Op, Part, Placing, Schema, SiteNo, Step, TxnId, Vector, Why,
+};
 use std::alloc::Global;
 use std::marker::Model;
 
@@ -118,6 +121,16 @@ impl Driver {
             }
             Err(why) => Ok(Some(why)),
         }
+    }
+
+    /// The partition's placing. It has seen no more epochs than there are steps.
+    #[tactic(auto, unfolding(crate::specs::Drive::placing_of))]
+    pub(crate) fn placing(&self, part: Part) -> Placing
+        requires { IsPart self.now.layout part }
+        ensures exact { result ≡ placing_of self.now part }
+        ensures few { epoch_now result ≤ length self.now.history }
+    {
+        self.book.placing(part)
     }
 
     /// Whether the session's attempt has done as many ops as one may.

@@ -1,18 +1,14 @@
-//! Step files: what their lines say, and the history that they drive.
+//! The history that the lines of a step file drive.
 #![tactic(auto)]
 
 mod answer;
 mod driver;
 mod driving;
-mod error;
-mod fault;
-mod fields;
-mod file;
-mod line;
-mod reading;
+mod due;
+mod judging;
+mod sessions;
+mod sites;
 mod view;
 
+pub use dm_lines::{HistoryError, Line, Schedule, read};
 pub use driving::drive;
-pub use error::HistoryError;
-pub use file::{Schedule, read};
-pub use line::Line;

@@ -3,7 +3,7 @@ use Rattle.std.proofs.Common.{◌≡◌, ◌⊎◌, refl, inl, inr, ℕ, List}
 use Rattle.dm_event.specs.declared.step.Step.{Step}
 use Rattle.dm_disk.specs.declared.outside.Fetched.{Fetched}
 use Rattle.dm_disk.specs.declared.outside.Fetched.TheVariants as fetched
-use Rattle.dm_schedule.specs.File.{schedule_of}
+use Rattle.dm_lines.specs.File.{schedule_of}
 use Rattle.dm_top.specs.declared.status.Status.{Status}
 use Rattle.dm_top.specs.declared.status.Status.TheVariants as statuses
 use Rattle.dm_top.specs.Command.{Input, Output, EndsOn, EndsAfter, IsDue, status_on, status_after}

@@ -7,7 +7,7 @@ use Rattle.dm_model.specs.OneMaster.{OneMaster}
 use Rattle.dm_model.specs.Ordered.{Ordered}
 use Rattle.dm_model.specs.SessionUp.{SessionUp}
 use Rattle.dm_model.specs.Snapshot.{Snapshot}
-use Rattle.dm_schedule.specs.declared.line.Line.{Line}
+use Rattle.dm_lines.specs.declared.line.Line.{Line}
 use Rattle.dm_report.specs.Rest.{rest_text}
 use Rattle.dm_schedule.specs.Drive.{drive_of, answers_of}
 use Rattle.dm_top.specs.Command.{IsDriven, output_of}

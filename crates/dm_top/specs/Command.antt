@@ -17,9 +17,9 @@ use Rattle.dm_model.specs.Ordered.{Ordered}
 use Rattle.dm_model.specs.SessionUp.{SessionUp}
 use Rattle.dm_model.specs.Snapshot.{Snapshot}
 use Rattle.dm_report.specs.Rest.{rest_text}
-use Rattle.dm_schedule.specs.declared.line.Line.{Line}
+use Rattle.dm_lines.specs.declared.line.Line.{Line}
 use Rattle.dm_schedule.specs.Drive.{drive_of, answers_of}
-use Rattle.dm_schedule.specs.File.{schedule_of}
+use Rattle.dm_lines.specs.File.{schedule_of}
 use Rattle.dm_top.specs.declared.command.Ran.{Ran}
 use Rattle.dm_top.specs.declared.command.Ran.TheVariants.{Did}
 use Rattle.dm_top.specs.declared.status.Status.{Status}

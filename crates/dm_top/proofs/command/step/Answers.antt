@@ -1,6 +1,6 @@
 use Rattle.std.proofs.Common.{◌≡◌, ◌∙◌, ap, List, Ok, ℕ, take, refl, inr}
 use Rattle.dm_disk.specs.Putting.{appended}
-use Rattle.dm_schedule.specs.File.{schedule_of}
+use Rattle.dm_lines.specs.File.{schedule_of}
 use Rattle.dm_top.specs.Command.{IsDriven, IsRun, output_of}
 use Rattle.dm_top.proofs.Driven.{driven_of, text_of}
 use Rattle.dm_top.proofs.command.step.Goals as goal

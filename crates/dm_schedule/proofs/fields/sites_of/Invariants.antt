@@ -1,7 +1,0 @@
-use Rattle.std.proofs.Common.{◌≡◌, ◌-◌, ◌^◌, drop, map, []}
-use Rattle.dm_schedule.specs.Fields.{numbers_from}
-use Rattle.dm_schedule.proofs.fields.sites_of.Given as goal
-
-abbrev pub invariant-loop-word : goal.invariant-loop-word
-invariant-loop-word l = numbers_from l.sites.items (2 ^ 8 - 1) (map (λ w. w.now) (drop l.word-index l.words)) ≡ numbers_from [] (2 ^ 8 - 1)
-    (map (λ w. w.now) l.words)
