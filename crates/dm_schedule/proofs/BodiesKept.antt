@@ -1,11 +1,10 @@
 -- What each session's attempt has read and written stays what its ops do, as the history and its ops grow.
-use Rattle.std.proofs.Common.{ℕ, ℤ, ◌-◌, ◌<◌, ◌≤◌, ◌≡◌, ◌≢◌, Bool, true, false, ◌==◌, if◌then◌else◌, List, [], ◌∷◌, ◌++◌, Option, Some, None, length, get_or}
+use Rattle.std.proofs.Common.{ℕ, ℤ, ◌-◌, ◌≤◌, ◌≡◌, ◌≢◌, false, ◌==◌, List, [], ◌∷◌, ◌++◌, length}
 use Rattle.std.proofs.Common.{refl, sym, ap, ◌∙◌, subst, arith, inl, inr, true≢false}
 use Rattle.std.proofs.Math.ListN.{set, get_or-map}
 use Rattle.std.proofs.lemmas.Bool.{cases_eq, ne_eqb}
 use Rattle.std.proofs.lemmas.List.{reverse-append, get_or-set_same, get_or-set_other, map-set}
-use Rattle.std.specs.Option.{option_or}
-use Rattle.std.specs.Prelude.{reverse, map, slice_index_or}
+use Rattle.std.specs.Prelude.{reverse, slice_index_or}
 use Rattle.dm_core.specs.Ledger.{Ledger}
 use Rattle.dm_body.specs.Progress.{Progress, nothing_done, turn}
 use Rattle.dm_event.specs.Layout.{Layout}
@@ -16,8 +15,8 @@ use Rattle.dm_event.specs.declared.step.TxnId.{TxnId}
 use Rattle.dm_model.proofs.Histories.{legal_push}
 use Rattle.dm_model.proofs.StepTests.{passed}
 use Rattle.dm_model.specs.Allowed.{Allowed}
-use Rattle.dm_model.specs.Bodies.{Ran, after_op, run_from, body, ran_at}
-use Rattle.dm_model.specs.Legal.{Legal, LegalPast}
+use Rattle.dm_model.specs.Bodies.{Ran, after_op, run_from, ran_at}
+use Rattle.dm_model.specs.Legal.{Legal}
 use Rattle.dm_model.specs.Runs.{last_begin}
 use Rattle.dm_model.specs.Values.{value}
 use Rattle.dm_schedule.specs.Drive.{Drive, extended, with_ops}

@@ -12,11 +12,12 @@ use Rattle.dm_event.specs.declared.limits.TheConstants.{MAX_SESSIONS}
 use Rattle.dm_event.specs.declared.step.Op.{Op}
 use Rattle.dm_event.specs.declared.step.Step.{Step}
 use Rattle.dm_event.specs.declared.step.TxnId.{TxnId}
+use Rattle.dm_model.specs.Allowed.{Allowed}
 use Rattle.dm_model.specs.Attempts.{attempt}
-use Rattle.dm_model.specs.Bodies.{Ran, ran_at}
+use Rattle.dm_model.specs.Bodies.{ran_at}
 use Rattle.dm_model.specs.Legal.{Legal}
 use Rattle.dm_model.specs.Values.{value}
-use Rattle.dm_schedule.specs.Drive.{Drive, past, ops_of, routed_at, routed_of, running_of, with_ops}
+use Rattle.dm_schedule.specs.Drive.{Drive, start, past, refusal_of, ops_of, routed_at, routed_of, running_of, with_ops}
 use Rattle.dm_schedule.specs.Drivers.{ops_in, overlay_of, began, AreBodies}
 use Rattle.dm_schedule.specs.declared.driver.Run.{Run}
 use Rattle.dm_schedule.proofs.BodiesKept.{ops_at, ops_set, bodies_op}
@@ -35,6 +36,23 @@ pub bodies_new : (layout : Layout) (past : List Step) (overlays : List Progress)
 bodies_new layout past overlays e session one =
     subst (λ (p : Progress). p.ran ≡ ran_at layout past (began session past) p.ops)
     (sym (ap (λ (l : List Progress). get_or l (session - 1) nothing_done) e ∙ same_at nothing_done MAX_SESSIONS (session - 1))) refl
+
+no_ops : (n : ℕ) → ops_in (replicate n nothing_done) ≡ replicate n []
+no_ops zero = refl
+no_ops (suc n) = ap (λ (l : List (List Op)). [] ∷ l) (no_ops n)
+
+pub drive_new : (layout schema : Layout) (steps : List Step) (overlays : List Progress) → layout ≡ schema → steps ≡ []
+    → overlays ≡ replicate MAX_SESSIONS nothing_done
+    → ◌≡◌ {A = Drive} (record { layout = layout; history = steps; ops = ops_in overlays }) (start schema)
+drive_new layout schema steps overlays same none fresh =
+    λ i. record { layout = same i; history = none i; ops = (ap ops_in fresh ∙ no_ops MAX_SESSIONS) i }
+
+-- ---- a step more
+
+-- against a step that is allowed there is no reason
+pub allowed_why : (d : Drive) (step : Step) → Allowed d.layout (past d) step → refusal_of d step ≡ None
+unfolding refusal_of
+allowed_why d step allowed = allowed
 
 -- ---- the session of an attempt
 

@@ -8,16 +8,13 @@ use Rattle.std.specs.Prelude.{filter_map, option_map}
 use Rattle.dm_event.specs.Layout.{Layout}
 use Rattle.dm_event.specs.Txns.{same_txn}
 use Rattle.dm_event.specs.Vectors.{at}
-use Rattle.dm_event.specs.declared.attempt.Attempt.{Attempt}
 use Rattle.dm_event.specs.declared.attempt.AttemptState.{AttemptState}
 use Rattle.dm_event.specs.declared.attempt.AttemptState.TheVariants as stands
-use Rattle.dm_event.specs.declared.step.Choice.{Choice}
 use Rattle.dm_event.specs.declared.step.Entry.{Entry}
 use Rattle.dm_event.specs.declared.step.Op.{Op}
 use Rattle.dm_event.specs.declared.step.Step.{Step}
 use Rattle.dm_event.specs.declared.step.Step.TheVariants.{Route, Begin}
 use Rattle.dm_event.specs.declared.step.TxnId.{TxnId}
-use Rattle.dm_event.specs.declared.step.Want.{Want}
 use Rattle.dm_model.proofs.Numbering.{Numbered}
 use Rattle.dm_model.proofs.NumbersSound.{sound_past}
 use Rattle.dm_model.proofs.RunningStates.{tells_runs}

@@ -1,11 +1,13 @@
 //! Sessions that share the history of a book.
 
 ghost use Rattle.std.specs.Prelude.{◌≡◌, ◌≤◌, ◌+◌, [], ◌∷◌, None, IfOk};
-ghost use Rattle.dm_chronicle.specs.Standing.{IsOf};
+ghost use Rattle.std.specs.Option.{IsSomeAnd};
+ghost use Rattle.dm_chronicle.specs.Standing.{Covers, IsOf};
+ghost use Rattle.dm_core.specs.Lawful.{may_follow};
 ghost use Rattle.dm_event.specs.Actors.{actors};
 ghost use Rattle.dm_event.specs.declared.actor.Actor.TheVariants.{Session};
 
-use dm_chronicle::Chronicle;
+use dm_chronicle::{Chronicle, Turn};
 use dm_core::{Book, Chron, CorePass};
 use dm_event::{Actor, Cause, Choice, Keys, NoMemory, Said, Schema, Step, TxnId, Want, Weights};
 use std::alloc::Global;
@@ -31,6 +33,18 @@ fn route(alloc: Global, book: &Book, session: u32, number: u32) -> Result<Step, 
     })
 }
 
+/// Pushes the step, where there is room for it.
+fn push_if_room(turn: &mut Turn<'_, Book>, step: Step)
+    requires follows { IsSomeAnd turn.old.fixed (λ terms. may_follow terms turn.old.seen step) }
+    requires actors { Covers actors turn.old.actors step }
+    ensures table { turn.new.table ≡ turn.old.table }
+    ensures actors { turn.new.actors ≡ turn.old.actors }
+{
+    if turn.reserve(&step).is_ok() {
+        turn.push(step);
+    }
+}
+
 /// Routes the item, where that is allowed.
 fn route_item<R: Wait>(
     rt: &R,
@@ -47,8 +61,8 @@ fn route_item<R: Wait>(
 {
     let mut turn = chron.enter(rt, pass);
     if let Ok(step) = route(alloc, turn.kept(), session, number) {
-        if turn.kept().enabled(&step).is_ok() && turn.reserve(&step).is_ok() {
-            turn.push(step);
+        if turn.kept().enabled(&step).is_ok() {
+            push_if_room(&mut turn, step);
         }
     }
     turn.leave(pass);
@@ -68,8 +82,8 @@ fn answer_item<R: Wait>(rt: &R, chron: &Chron, pass: &mut CorePass, session: u32
         said,
     };
     let mut turn = chron.enter(rt, pass);
-    if turn.kept().enabled(&step).is_ok() && turn.reserve(&step).is_ok() {
-        turn.push(step);
+    if turn.kept().enabled(&step).is_ok() {
+        push_if_room(&mut turn, step);
     }
     turn.leave(pass);
 }

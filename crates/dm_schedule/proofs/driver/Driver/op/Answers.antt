@@ -1,4 +1,4 @@
-use Rattle.std.proofs.Common.{◌≡◌, ◌<◌, ◌≤◌, ℕ, [], ap, sym, ◌∙◌, List, length, arith, subst}
+use Rattle.std.proofs.Common.{◌<◌, ◌≤◌, [], ap, sym, ◌∙◌, List, length, arith, subst}
 use Rattle.dm_body.specs.Answer.{answer_of}
 use Rattle.dm_body.specs.Progress.{Progress}
 use Rattle.dm_event.specs.declared.limits.TheConstants.{MAX_OPS}

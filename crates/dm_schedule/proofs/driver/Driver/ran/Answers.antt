@@ -1,5 +1,4 @@
-use Rattle.std.proofs.Common.{◌≡◌, ◌≤◌, ap, arith, length}
-use Rattle.std.specs.Prelude.{Result, Ok, Err, IfOk}
+use Rattle.std.proofs.Common.{◌≤◌, ap, arith, length}
 use Rattle.dm_model.specs.Bodies.{Ran}
 use Rattle.dm_schedule.proofs.DriversKept.{ran_told, if_ran}
 use Rattle.dm_schedule.proofs.driver.Driver.ran.Goals as goal
