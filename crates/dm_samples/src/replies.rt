@@ -1,8 +1,10 @@
 //! The line of each outcome but those of a transaction, which step files bring about.
 
 use crate::reports::empty_book;
+use dm_core::Book;
 use dm_event::{Cause, Said};
 use dm_report::put_reply;
+use std::alloc::Global;
 use std::test::Fail;
 
 fn outcome(number: u32) -> Said {
@@ -35,14 +37,21 @@ reply 32 6 refused damage 2 at 40 read 255 written -
 reply 32 7 refused memory
 ";
 
-#[test]
-fn outcomes_have_their_lines(rt: HostRuntime) -> Result<(), Fail> {
-    let alloc = rt.alloc();
-    let book = empty_book(alloc)?;
+fn lines_in(alloc: Global, book: &Book) -> Result<Vec<u8>, Fail> {
     let mut out = Vec::new(alloc);
     for number in 1..8 {
-        put_reply(alloc, &mut out, &book, 32, number, &outcome(number))?;
+        put_reply(alloc, &mut out, book, 32, number, &outcome(number))?;
     }
-    assert_eq!(rt; out.as_slice(), LINES.as_bytes());
+    Ok(out)
+}
+
+fn lines(alloc: Global) -> Result<Vec<u8>, Fail> {
+    let book = empty_book(alloc)?;
+    lines_in(alloc, &book)
+}
+
+#[test]
+fn outcomes_have_their_lines(rt: HostRuntime) -> Result<(), Fail> {
+    assert_eq!(rt; lines(rt.alloc())?.as_slice(), LINES.as_bytes());
     Ok(())
 }

@@ -124,17 +124,33 @@ settle 0 1
 reply 3 1 placed 0 2 1
 ";
 
+/// A book in which the first so many of these steps have come.
+fn book_after(alloc: Global, count: u32) -> Result<Book, Fail> {
+    let mut book = empty_book(alloc)?;
+    for number in 0..count {
+        add(&mut book, step(number))?;
+    }
+    Ok(book)
+}
+
+fn report(alloc: Global, book: &Book) -> Result<Vec<u8>, Fail> {
+    let mut out = Vec::new(alloc);
+    write_rest(alloc, book, &mut out)?;
+    Ok(out)
+}
+
+fn report_after(alloc: Global, count: u32) -> Result<Vec<u8>, Fail> {
+    let book = book_after(alloc, count)?;
+    report(alloc, &book)
+}
+
 #[test]
 fn a_hand_over_in_doubt_and_settled(rt: HostRuntime) -> Result<(), Fail> {
-    let alloc = rt.alloc();
     for (count, text) in [(5, IN_DOUBT), (8, SETTLED)] {
-        let mut book = empty_book(alloc)?;
-        for number in 0..count {
-            add(&mut book, step(number))?;
-        }
-        let mut out = Vec::new(alloc);
-        write_rest(alloc, &book, &mut out)?;
-        assert_eq!(rt; out.as_slice(), text.as_bytes());
+        assert_eq!(rt;
+            report_after(rt.alloc(), count)?.as_slice(),
+            text.as_bytes()
+        );
     }
     Ok(())
 }

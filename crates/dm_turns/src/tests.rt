@@ -39,10 +39,9 @@ fn has_twenty_items(steps: &[Step], session: u32) -> bool {
 
 #[test]
 fn each_session_s_steps_stand_in_its_order(rt: HostRuntime) -> Result<(), Fail> {
-    let book = two_sessions(&rt, rt.alloc(), 20)?;
-    let steps = book.steps();
+    let steps = two_sessions(&rt, rt.alloc(), 20)?.into_steps();
     assert_eq!(rt; steps.len(), 80);
-    assert!(rt; has_twenty_items(steps, 1));
-    assert!(rt; has_twenty_items(steps, 2));
+    assert!(rt; has_twenty_items(&steps, 1));
+    assert!(rt; has_twenty_items(&steps, 2));
     Ok(())
 }

@@ -1,23 +1,37 @@
 //! What is answered to each kind of step: in each state of an attempt, and in each placing of a partition.
 
 use crate::acts::{Act, book_after, step};
-use dm_event::{Cause, Choice, Said};
+use dm_core::Book;
+use dm_event::{Cause, Choice, Said, Step};
 use dm_history::put_why;
 use std::alloc::Global;
 use std::test::Fail;
 
-/// The answer to each of the steps in a book where the others have come: `may`, or why not.
-fn answers(alloc: Global, come: &[Act], asked: &[Act]) -> Result<Vec<u8>, Fail> {
-    let book = book_after(alloc, come)?;
+/// Appends what the book answers to the step: `may`, or why not.
+fn put_answer(alloc: Global, out: &mut Vec<u8>, book: &Book, step: &Step) -> Result<(), Fail> {
+    match book.enabled(step).err() {
+        None => out.extend_from_slice(b"may; ")?,
+        Some(why) => {
+            put_why(alloc, out, &why)?;
+            out.extend_from_slice(b"; ")?;
+        }
+    }
+    Ok(())
+}
+
+/// What the book answers to each of the steps.
+fn answered(alloc: Global, book: &Book, asked: &[Act]) -> Result<Vec<u8>, Fail> {
     let mut out = Vec::new(alloc);
     for act in asked {
-        match book.enabled(&step(alloc, act)) {
-            Ok(()) => out.extend_from_slice(b"may")?,
-            Err(why) => put_why(alloc, &mut out, &why)?,
-        }
-        out.extend_from_slice(b"; ")?;
+        put_answer(alloc, &mut out, book, &step(alloc, act))?;
     }
     Ok(out)
+}
+
+/// The answer to each of the steps in a book where the others have come.
+fn answers(alloc: Global, come: &[Act], asked: &[Act]) -> Result<Vec<u8>, Fail> {
+    let book = book_after(alloc, come)?;
+    answered(alloc, &book, asked)
 }
 
 /// Session 1's attempt is sent to site 1.
@@ -200,6 +214,12 @@ const REPLIES_ANSWERED: &[(&[Act], &str, Option<Said>)] = &[
     ),
 ];
 
+/// What session 1 is to be answered where these steps have come.
+fn due_after(alloc: Global, come: &[Act]) -> Result<Option<Said>, Fail> {
+    let book = book_after(alloc, come)?;
+    Ok(book.said_for(1))
+}
+
 #[test]
 fn each_outcome_in_each_state_of_an_attempt(rt: HostRuntime) -> Result<(), Fail> {
     for (come, may, due) in REPLIES_ANSWERED {
@@ -207,7 +227,7 @@ fn each_outcome_in_each_state_of_an_attempt(rt: HostRuntime) -> Result<(), Fail>
             answers(rt.alloc(), come, REPLIES)?.as_slice(),
             may.as_bytes()
         );
-        assert_eq!(rt; book_after(rt.alloc(), come)?.said_for(1), *due);
+        assert_eq!(rt; due_after(rt.alloc(), come)?, *due);
     }
     Ok(())
 }
