@@ -14,7 +14,8 @@ use Rattle.dm_redo.specs.Settling.{Firms, Keeps, Stood}
 use Rattle.dm_redo.proofs.Compared.{framed_one, compared_agrees}
 use Rattle.dm_redo.proofs.OneLog.{frames_are}
 
-pub kept_gate : (written : List (List ℕ)) (pending : Option (List ℕ)) (frame expected : List ℕ) (r : Found × ℕ) → pending ≡ Some frame → expected ≡ framed written ++ 1 ∷ frame → r ≡ (found.Kept, length expected) → r.1 ≡ length (framed (stood r.0 written pending))
+pub kept_gate : (written : List (List ℕ)) (pending : Option (List ℕ)) (frame expected : List ℕ) (r : Found × ℕ) → pending ≡ Some frame
+    → expected ≡ framed written ++ 1 ∷ frame → r ≡ (found.Kept, length expected) → r.1 ≡ length (framed (stood r.0 written pending))
 kept_gate written pending frame expected r is long same =
     subst (λ (p : Found × ℕ). p.1 ≡ length (framed (stood p.0 written pending))) (sym same)
     (ap length (long ∙ sym (framed_one written frame)) ∙ ap (λ (p : Option (List ℕ)). length (framed (stood found.Kept written p))) (sym is))
@@ -37,7 +38,8 @@ module _ (frames : List (List ℕ)) (d : List ℕ) (n : ℕ) (frame : List ℕ) 
   pub are_next : AreFrames (take n frames) → IsSomeFrame frame → AreFrames (take (n + 1) frames)
   are_next are some = subst AreFrames (sym taken_frame) (frames_one (take n frames) frame are some)
 
-pub kept_frames : (written : List (List ℕ)) (pending : Option (List ℕ)) (frame expected : List ℕ) (r : Found × ℕ) → pending ≡ Some frame → AreFrames written → IsSomeFrame frame
+pub kept_frames : (written : List (List ℕ)) (pending : Option (List ℕ)) (frame expected : List ℕ) (r : Found × ℕ) → pending ≡ Some frame → AreFrames written
+    → IsSomeFrame frame
     → r ≡ (found.Kept, length expected) → AreFrames (stood r.0 written pending)
 kept_frames written pending frame expected r is are some same =
     subst (λ (p : Found × ℕ). AreFrames (stood p.0 written pending)) (sym same)
@@ -47,19 +49,22 @@ pub ok_on : {A E : Type 0} → (P Q : A → Type 0) (result : Result A E) → If
 ok_on P Q (Ok a) holds to = to a holds
 ok_on P Q (Err e) holds to = tt
 
-module _ (written : List (List ℕ)) (pending : Option (List ℕ)) (bytes : List ℕ) (f : Found) (gate : ℕ) (due : compared (framed written) pending bytes ≡ Ok f) (place : gate ≡ length (framed (stood f written pending))) where
+module _ (written : List (List ℕ)) (pending : Option (List ℕ)) (bytes : List ℕ) (f : Found) (gate : ℕ) (due : compared (framed written) pending bytes ≡ Ok f)
+    (place : gate ≡ length (framed (stood f written pending))) where
   stands_so : (s : Story) → bytes ≡ bytes_of s → Stands (stood f written pending) gate s
   stands_so s is =
       let a = compared_agrees written pending bytes f due in
       record { rest = drop (length (framed (stood f written pending))) bytes; reads = sym is ∙ a.0; ends = a.1; place = place }
 
-  pub firm_keeps : {E : Type 0} (result : Result (Unit {0}) E) (o n : Option Story) → IfSome o (λ s. bytes ≡ bytes_of s) → Both (Firms gate result) o n → Both (Keeps written pending) o n
+  pub firm_keeps : {E : Type 0} (result : Result (Unit {0}) E) (o n : Option Story) → IfSome o (λ s. bytes ≡ bytes_of s) → Both (Firms gate result) o n
+      → Both (Keeps written pending) o n
   firm_keeps result None None is h = tt
   firm_keeps result None (Some t) is h = h
   firm_keeps result (Some s) None is h = h
   firm_keeps result (Some s) (Some t) is h = (h f written pending (stands_so s is)).0
 
-  pub firm_stands : (E : Type 0) (o n : Option Story) → IfSome o (λ s. bytes ≡ bytes_of s) → Both (Firms {E = E} gate (Ok tt)) o n → Both (Stood written pending f gate) o n
+  pub firm_stands : (E : Type 0) (o n : Option Story) → IfSome o (λ s. bytes ≡ bytes_of s) → Both (Firms {E = E} gate (Ok tt)) o n
+      → Both (Stood written pending f gate) o n
   firm_stands E None None is h = tt
   firm_stands E None (Some t) is h = h
   firm_stands E (Some s) None is h = h

@@ -103,7 +103,8 @@ agrees_lost : (written : List (List ℕ)) (frame file : List ℕ) → Holds writ
 agrees_lost written frame file (rest, is, ends) =
     (found.Lost, ap (compared (framed written) (Some frame)) is ∙ lost_so (framed written) frame rest ends, (rest, is, ends))
 
-agrees_kept : (written : List (List ℕ)) (frame file rest : List ℕ) → file ≡ framed written ++ 1 ∷ (frame ++ rest) → IsEnd rest → Agrees written (Some frame) file
+agrees_kept : (written : List (List ℕ)) (frame file rest : List ℕ) → file ≡ framed written ++ 1 ∷ (frame ++ rest) → IsEnd rest
+    → Agrees written (Some frame) file
 agrees_kept written frame file rest is ends = by (frame ++ rest) refl
   where
     by : (more : List ℕ) → frame ++ rest ≡ more → Agrees written (Some frame) file

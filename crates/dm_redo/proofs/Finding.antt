@@ -29,18 +29,27 @@ pub frames_push : (recs : List Record) (rec : Record) → frames_of (recs ++ rec
 frames_push [] rec = refl
 frames_push (r ∷ recs) rec = ap (λ (l : List (List ℕ)). frame_of r ∷ l) (frames_push recs rec)
 
-pub found_more : (bytes : List ℕ) (gate n : ℕ) (recs : List Record) (rec : Record) → Finds bytes gate recs → gate < length bytes → get_or bytes gate 0 ≡ 1 → n ≤ length (drop (gate + 1) bytes) → IsFrame (take n (drop (gate + 1) bytes)) rec → Finds bytes (gate + (n + 1)) (recs ++ rec ∷ [])
+pub found_more : (bytes : List ℕ) (gate n : ℕ) (recs : List Record) (rec : Record) → Finds bytes gate recs → gate < length bytes → get_or bytes gate 0 ≡ 1
+    → n ≤ length (drop (gate + 1) bytes) → IsFrame (take n (drop (gate + 1) bytes)) rec → Finds bytes (gate + (n + 1)) (recs ++ rec ∷ [])
 found_more bytes gate n recs rec found more is_open fits is =
     let frame = frame_of rec in
     let frames = frames_of recs in
-    let next : drop (gate + (n + 1)) bytes ≡ drop n (drop (gate + 1) bytes) = ap (λ (k : ℕ). drop k bytes) (reorder gate n) ∙ sym (drop-drop n (gate + 1) bytes) in
+    let next : drop (gate + (n + 1)) bytes ≡ drop n (drop (gate + 1) bytes) = ap (λ (k : ℕ). drop k bytes) (reorder gate n)
+    ∙ sym (drop-drop n (gate + 1) bytes) in
     let rest : drop gate bytes ≡ 1 ∷ (frame ++ drop (gate + (n + 1)) bytes) =
-    drop_more bytes gate 0 more ∙ ap (λ (b : ℕ). b ∷ drop (gate + 1) bytes) is_open ∙ ap (λ (l : List ℕ). 1 ∷ l) (sym (take-append-drop n (drop (gate + 1) bytes)) ∙ ap (λ (l : List ℕ). l ++ drop n (drop (gate + 1) bytes)) is.1 ∙ ap (λ (l : List ℕ). frame ++ l) (sym next)) in
+    drop_more bytes gate 0 more ∙ ap (λ (b : ℕ). b ∷ drop (gate + 1) bytes) is_open
+    ∙ ap (λ (l : List ℕ). 1 ∷ l)
+    (sym (take-append-drop n (drop (gate + 1) bytes)) ∙ ap (λ (l : List ℕ). l ++ drop n (drop (gate + 1) bytes)) is.1
+    ∙ ap (λ (l : List ℕ). frame ++ l) (sym next)) in
     let size : length frame ≡ n = ap length (sym is.1) ∙ length-take-le n (drop (gate + 1) bytes) fits in
     record {
       are = are_push recs rec found.are is.0;
-      split = found.split ∙ ap (λ (l : List ℕ). framed frames ++ l) rest ∙ sym (framed_push frames frame (drop (gate + (n + 1)) bytes)) ∙ ap (λ (fs : List (List ℕ)). framed fs ++ drop (gate + (n + 1)) bytes) (sym (frames_push recs rec));
-      place = place_of gate n (length (framed frames)) (length frame) (length (framed (frames ++ frame ∷ []))) found.place size (framed_long frames frame) ∙ ap (λ (fs : List (List ℕ)). length (framed fs)) (sym (frames_push recs rec));
+      split =
+          found.split ∙ ap (λ (l : List ℕ). framed frames ++ l) rest ∙ sym (framed_push frames frame (drop (gate + (n + 1)) bytes))
+          ∙ ap (λ (fs : List (List ℕ)). framed fs ++ drop (gate + (n + 1)) bytes) (sym (frames_push recs rec));
+      place =
+          place_of gate n (length (framed frames)) (length frame) (length (framed (frames ++ frame ∷ []))) found.place size (framed_long frames frame)
+          ∙ ap (λ (fs : List (List ℕ)). length (framed fs)) (sym (frames_push recs rec));
       within = omega (arith, fits, length-drop (gate + 1) bytes, more);
     }
   where
@@ -59,7 +68,8 @@ good_so bytes gate recs has place (others, found, bad) =
 stands_at : (gate : ℕ) (recs : List Record) (s : Story) → Has (bytes_of s) gate recs → Stands (frames_of recs) gate s
 stands_at gate recs s has = record { rest = drop gate (bytes_of s); reads = has.0.split; ends = has.1; place = has.0.place }
 
-keeps_so : {E : Type 0} (result : Result (Unit {0}) E) (gate : ℕ) (recs : List Record) (s t : Story) → Has (bytes_of s) gate recs → Tidies gate result s t → KeepsRecords s t
+keeps_so : {E : Type 0} (result : Result (Unit {0}) E) (gate : ℕ) (recs : List Record) (s t : Story) → Has (bytes_of s) gate recs → Tidies gate result s t
+    → KeepsRecords s t
 keeps_so result gate recs s t has tidies g others other durable =
     let same = one_log_holds (bytes_of s) gate g recs others has.0 (inl has.1) other.0 (inl other.1) in
     subst (λ (l : List Record). LeavesOnly (Holds (frames_of l)) s t) same.0 ((tidies (frames_of recs) (stands_at gate recs s has)).1 durable).0
@@ -85,15 +95,21 @@ module _ (gate : ℕ) (recs : List Record) (bytes : List ℕ) (has : Has bytes g
   loaded E (Some s) None is tidies = tidies
   loaded E (Some s) (Some t) is tidies = loaded_story E gate recs s t (has_told gate recs bytes s is has) tidies
 
-  pub failed : {E : Type 0} (result : Result (Unit {0}) E) (o n : Option Story) → IfSome o (λ s. bytes ≡ bytes_of s) → Both (Tidies gate result) o n → Both KeepsRecords o n
+  pub failed : {E : Type 0} (result : Result (Unit {0}) E) (o n : Option Story) → IfSome o (λ s. bytes ≡ bytes_of s) → Both (Tidies gate result) o n
+      → Both KeepsRecords o n
   failed result None None is tidies = tt
   failed result None (Some t) is tidies = tidies
   failed result (Some s) None is tidies = tidies
   failed result (Some s) (Some t) is tidies = keeps_so result gate recs s t (has_told gate recs bytes s is has) tidies
 
-pub is_bad : (bytes : List ℕ) (gate : ℕ) (recs : List Record) → Finds bytes gate recs → gate + 1 < length bytes → get_or bytes gate 0 ≡ 1 → NoFrame (drop (gate + 1) bytes) → IsBadAt bytes gate
-is_bad bytes gate recs found more is_open none =
-    (recs, found, subst IsBad (sym (drop_more bytes gate 0 (omega (arith, more)) ∙ ap (λ (b : ℕ). b ∷ drop (gate + 1) bytes) is_open)) (bad (drop (gate + 1) bytes) some none))
+pub is_bad : (bytes : List ℕ) (gate : ℕ) (recs : List Record) → Finds bytes gate recs → gate + 1 < length bytes → get_or bytes gate 0 ≡ 1
+    → NoFrame (drop (gate + 1) bytes) → IsBadAt bytes gate
+is_bad bytes gate recs found more is_open none = (
+  recs,
+  found,
+  subst IsBad (sym (drop_more bytes gate 0 (omega (arith, more)) ∙ ap (λ (b : ℕ). b ∷ drop (gate + 1) bytes) is_open))
+      (bad (drop (gate + 1) bytes) some none),
+)
   where
     some : 0 < length (drop (gate + 1) bytes)
     some = omega (arith, more, length-drop (gate + 1) bytes)

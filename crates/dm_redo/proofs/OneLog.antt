@@ -23,16 +23,23 @@ same_rec a b x y ha hb is = ap (rec_in a) (sym (again a x ha) ∙ ap (λ (l : Li
 
 same_rest : (a b : Record) (x y : List ℕ) → a ≡ b → frame_of a ++ x ≡ frame_of b ++ y → x ≡ y
 same_rest a b x y same is =
-    sym (drop_at (frame_of a) x (length (frame_of a)) refl) ∙ ap (λ (l : List ℕ). drop (length (frame_of a)) l) (is ∙ ap (λ (r : Record). frame_of r ++ y) (sym same)) ∙ drop_at (frame_of a) y (length (frame_of a)) refl
+    sym (drop_at (frame_of a) x (length (frame_of a)) refl)
+    ∙ ap (λ (l : List ℕ). drop (length (frame_of a)) l) (is ∙ ap (λ (r : Record). frame_of r ++ y) (sym same))
+    ∙ drop_at (frame_of a) y (length (frame_of a)) refl
 
 goes_on : (b : Record) (rest : List ℕ) → HasRanges b → Halts (1 ∷ (frame_of b ++ rest)) → ⊥
 goes_on b rest has (inl ends) = ends refl
 goes_on b rest has (inr bad) = bad.1 (length (frame_of b)) b (has, take_at (frame_of b) rest (length (frame_of b)) refl)
 
-one : (recs others : List Record) (x y : List ℕ) → AreRecords recs → AreRecords others → framed (frames_of recs) ++ x ≡ framed (frames_of others) ++ y → Halts x → Halts y → recs ≡ others
+one : (recs others : List Record) (x y : List ℕ) → AreRecords recs → AreRecords others → framed (frames_of recs) ++ x ≡ framed (frames_of others) ++ y
+    → Halts x → Halts y → recs ≡ others
 one [] [] x y ha hb is hx hy = refl
-one [] (b ∷ others) x y ha hb is hx hy = absurd (goes_on b (framed (frames_of others) ++ y) hb.0 (subst Halts (is ∙ ap (λ (l : List ℕ). 1 ∷ l) (append_assoc (frame_of b) (framed (frames_of others)) y)) hx))
-one (a ∷ recs) [] x y ha hb is hx hy = absurd (goes_on a (framed (frames_of recs) ++ x) ha.0 (subst Halts (sym is ∙ ap (λ (l : List ℕ). 1 ∷ l) (append_assoc (frame_of a) (framed (frames_of recs)) x)) hy))
+one [] (b ∷ others) x y ha hb is hx hy =
+    absurd (goes_on b (framed (frames_of others) ++ y) hb.0
+    (subst Halts (is ∙ ap (λ (l : List ℕ). 1 ∷ l) (append_assoc (frame_of b) (framed (frames_of others)) y)) hx))
+one (a ∷ recs) [] x y ha hb is hx hy =
+    absurd (goes_on a (framed (frames_of recs) ++ x) ha.0
+    (subst Halts (sym is ∙ ap (λ (l : List ℕ). 1 ∷ l) (append_assoc (frame_of a) (framed (frames_of recs)) x)) hy))
 one (a ∷ recs) (b ∷ others) x y ha hb is hx hy =
     let split : frame_of a ++ (framed (frames_of recs) ++ x) ≡ frame_of b ++ (framed (frames_of others) ++ y) =
     sym (append_assoc (frame_of a) (framed (frames_of recs)) x) ∙ ap (λ (l : List ℕ). drop 1 l) is ∙ append_assoc (frame_of b) (framed (frames_of others)) y in

@@ -18,7 +18,8 @@ module _ (gate : ℕ) (frame : List ℕ) where
   torn_holds : (frames : List (List ℕ)) (s : Story) (effect : Bool) → IsAt frames gate s → IsFirm frames s → EachImage (Holds frames) (noted (body effect) s)
   torn_holds frames s effect at firm c left =
       let was = firm left.0 left.1 in
-      holds_closed frames (drop (gate + 1) c) c (torn_behind (framed frames) frame gate at.place was.0 c (subst (λ (d : List ℕ). Torn (gate + 1) (length (frame ++ 0 ∷ [])) d c) was.1 left.2))
+      holds_closed frames (drop (gate + 1) c) c
+      (torn_behind (framed frames) frame gate at.place was.0 c (subst (λ (d : List ℕ). Torn (gate + 1) (length (frame ++ 0 ∷ [])) d c) was.1 left.2))
 
   firm_holds : (frames : List (List ℕ)) (s : Story) → IsFirm frames s → EachImage (Holds frames) s
   firm_holds frames s firm c left = let was = firm c left in holds_closed frames was.0 c was.1
@@ -36,7 +37,12 @@ module _ (gate : ℕ) (frame : List ℕ) where
   -- the frame's write failed
   pub undone_write : (effect : Bool) (s : Story) → Appends gate frame Undone s (after (body effect ∷ []) s)
   undone_write effect s = record {
-    crash = λ frames at firm. (body effect ∷ [], refl, (weaker frames s (firm_holds frames s firm), weaker frames (noted (body effect) s) (torn_holds frames s effect at firm)));
+    crash =
+        λ frames at firm. (
+          body effect ∷ [],
+          refl,
+          (weaker frames s (firm_holds frames s firm), weaker frames (noted (body effect) s) (torn_holds frames s effect at firm)),
+        );
     ends = λ frames at. (body_reads frames s effect at, λ firm. torn_holds frames s effect at firm);
   }
 
@@ -44,8 +50,15 @@ module _ (gate : ℕ) (frame : List ℕ) where
   pub undone_sync : (effect : Bool) (s : Story) → Appends gate frame Undone s (after (synced effect ∷ body true ∷ []) s)
   undone_sync effect s = record {
     crash = λ frames at firm.
-        let torn = torn_holds frames s true at firm in
-        (synced effect ∷ body true ∷ [], refl, ((weaker frames s (firm_holds frames s firm), weaker frames (noted (body true) s) torn), weaker frames (noted (synced effect) (noted (body true) s)) (sync_keeps (Holds frames) (noted (body true) s) effect torn)));
+        let torn = torn_holds frames s true at firm in (
+          synced effect ∷ body true ∷ [],
+          refl,
+          (
+            (weaker frames s (firm_holds frames s firm), weaker frames (noted (body true) s) torn),
+            weaker frames
+                (noted (synced effect) (noted (body true) s)) (sync_keeps (Holds frames) (noted (body true) s) effect torn),
+          ),
+        );
     ends = λ frames at. (body_reads frames s true at, λ firm. sync_keeps (Holds frames) (noted (body true) s) effect (torn_holds frames s true at firm));
   }
 
@@ -55,7 +68,8 @@ module _ (gate : ℕ) (frame : List ℕ) where
     staged = noted (synced true) (noted (body true) s)
 
     torn_opening : (effect : Bool) (c : List ℕ) → IsImage (noted (opening effect) staged) c → c ≡ framed frames ++ get_or c gate 0 ∷ (frame ++ 0 ∷ [])
-    torn_opening effect c left = torn_gate (framed frames) frame gate at.place c (subst (λ (d : List ℕ). Torn gate 1 d c) (left.1 ∙ body_read frames s at) left.2)
+    torn_opening effect c left =
+        torn_gate (framed frames) frame gate at.place c (subst (λ (d : List ℕ). Torn gate 1 d c) (left.1 ∙ body_read frames s at) left.2)
 
     opening_counts : (effect : Bool) → EachImage (IsBeforeOrAfter frames frame) (noted (opening effect) staged)
     opening_counts effect c left = holds_gate frames (get_or c gate 0) frame c (torn_opening effect c left)
@@ -67,10 +81,13 @@ module _ (gate : ℕ) (frame : List ℕ) where
     staged_holds firm = weaker frames staged (sync_keeps (Holds frames) (noted (body true) s) true (torn_holds frames s true at firm))
 
     staged_moments : IsFirm frames s → EachMoment (IsBeforeOrAfter frames frame) (synced true ∷ body true ∷ []) s
-    staged_moments firm = ((weaker frames s (firm_holds frames s firm), weaker frames (noted (body true) s) (torn_holds frames s true at firm)), staged_holds firm)
+    staged_moments firm =
+        ((weaker frames s (firm_holds frames s firm), weaker frames (noted (body true) s) (torn_holds frames s true at firm)), staged_holds firm)
 
     opened_reads : bytes_of (noted (opening true) staged) ≡ framed (frames ++ frame ∷ []) ++ 0 ∷ []
-    opened_reads = ap (λ (b : List ℕ). overwritten gate (1 ∷ []) b) (body_read frames s at) ∙ written_gate (framed frames) frame gate at.place ∙ sym (framed_push frames frame (0 ∷ []))
+    opened_reads =
+        ap (λ (b : List ℕ). overwritten gate (1 ∷ []) b) (body_read frames s at) ∙ written_gate (framed frames) frame gate at.place
+        ∙ sym (framed_push frames frame (0 ∷ []))
 
   -- the gate's write failed
   pub doubt_write : (effect : Bool) (s : Story) → Appends gate frame Doubt s (after (opening effect ∷ synced true ∷ body true ∷ []) s)
@@ -82,13 +99,31 @@ module _ (gate : ℕ) (frame : List ℕ) where
   -- the last sync failed
   pub doubt_sync : (effect : Bool) (s : Story) → Appends gate frame Doubt s (after (synced effect ∷ opening true ∷ synced true ∷ body true ∷ []) s)
   doubt_sync effect s = record {
-    crash = λ frames at firm. (synced effect ∷ opening true ∷ synced true ∷ body true ∷ [], refl, ((staged_moments frames s at firm, opening_counts frames s at true), sync_keeps (IsBeforeOrAfter frames frame) (noted (opening true) (staged frames s at)) effect (opening_counts frames s at true)));
+    crash =
+        λ frames at firm. (
+          synced effect ∷ opening true ∷ synced true ∷ body true ∷ [],
+          refl,
+          (
+            (staged_moments frames s at firm, opening_counts frames s at true),
+            sync_keeps (IsBeforeOrAfter frames frame)
+                (noted (opening true) (staged frames s at)) effect (opening_counts frames s at true),
+          ),
+        );
     ends = λ frames at. sync_keeps (HasFrame gate frame) (noted (opening true) (staged frames s at)) effect (opening_has frames s at true);
   }
 
   pub done_sync : (s : Story) → Appends gate frame Done s (after (synced true ∷ opening true ∷ synced true ∷ body true ∷ []) s)
   done_sync s = record {
-    crash = λ frames at firm. (synced true ∷ opening true ∷ synced true ∷ body true ∷ [], refl, ((staged_moments frames s at firm, opening_counts frames s at true), sync_keeps (IsBeforeOrAfter frames frame) (noted (opening true) (staged frames s at)) true (opening_counts frames s at true)));
+    crash =
+        λ frames at firm. (
+          synced true ∷ opening true ∷ synced true ∷ body true ∷ [],
+          refl,
+          (
+            (staged_moments frames s at firm, opening_counts frames s at true),
+            sync_keeps (IsBeforeOrAfter frames frame)
+                (noted (opening true) (staged frames s at)) true (opening_counts frames s at true),
+          ),
+        );
     ends = λ frames at. (
       record {
         reads = opened_reads frames s at;
@@ -99,4 +134,13 @@ module _ (gate : ℕ) (frame : List ℕ) where
   }
     where
       grown : (frames : List (List ℕ)) → gate ≡ length (framed frames) → gate + length frame + 1 ≡ length (framed (frames ++ frame ∷ []))
-      grown frames place = omega (arith, place, ap length (framed_push frames frame []), length-append (framed (frames ++ frame ∷ [])) [], length-append (framed frames) (1 ∷ (frame ++ [])), length-append frame [])
+      grown frames place =
+          omega (
+            arith,
+            place,
+            ap length (framed_push frames frame []),
+            length-append (framed (frames ++ frame ∷ [])) [],
+            length-append (framed frames)
+                (1 ∷ (frame ++ [])),
+            length-append frame [],
+          )

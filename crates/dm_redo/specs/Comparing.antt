@@ -1,8 +1,10 @@
 -- A file against what was written.
-use Rattle.std.specs.Prelude.{◌≡◌, ℕ, zero, suc, Bool, true, false, ◌&&◌, ◌==◌, if◌then◌else◌, List, [], ◌∷◌, ◌++◌, length, drop, slice_get, Option, Some, None, Result, Ok, Err}
+use Rattle.std.specs.Prelude.{◌≡◌, ℕ, zero, suc, Bool, true, false, ◌&&◌, ◌==◌, if◌then◌else◌, List, [], ◌∷◌, ◌++◌, length, drop, slice_get, Option, Some, None, Result, Ok, Err, IfSome}
 use Rattle.dm_event.specs.declared.step.Found.{Found}
 use Rattle.dm_event.specs.declared.step.Found.TheVariants as found
+use Rattle.dm_logdisk.specs.Story.{Story, bytes_of}
 use Rattle.dm_record.specs.Frames.{IsSomeFrame}
+use Rattle.dm_redo.specs.Holding.{framed}
 use Rattle.dm_redo.specs.declared.comparing.AgainstFault.{AgainstFault}
 use Rattle.dm_redo.specs.declared.comparing.AgainstFault.TheVariants as fault
 
@@ -40,6 +42,10 @@ Says (Ok found) due = due ≡ Ok found
 Says (Err (fault.Differs place read written)) due = due ≡ Err (fault.Differs place read written)
 Says (Err fault.Log) due = Unit {0}
 Says (Err fault.Memory) due = Unit {0}
+
+-- it is the answer for what the disk reads, where it tells
+abbrev pub Shows : List (List ℕ) → Option (List ℕ) → Result Found AgainstFault → Option Story → Type 0
+Shows written pending answer story = IfSome story (λ s. Says answer (compared (framed written) pending (bytes_of s)))
 
 -- the frames that stand in the file where it agrees
 abbrev pub stood : Found → List (List ℕ) → Option (List ℕ) → List (List ℕ)

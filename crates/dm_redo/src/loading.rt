@@ -5,8 +5,8 @@ ghost use Rattle.dm_disk.specs.Faults.{Rose};
 ghost use Rattle.dm_logdisk.specs.Story.{Both, bytes_of};
 ghost use Rattle.dm_logdisk.specs.Calls.{Counts};
 ghost use Rattle.dm_redo.specs.Reading.{ReadsAll};
-ghost use Rattle.dm_redo.specs.Holding.{framed, IsEnd, IsAt};
-ghost use Rattle.dm_redo.specs.Comparing.{compared, Says, stood};
+ghost use Rattle.dm_redo.specs.Holding.{IsAt};
+ghost use Rattle.dm_redo.specs.Comparing.{Shows, stood};
 ghost use Rattle.dm_redo.specs.Settling.{Keeps, Stood};
 ghost use Rattle.dm_redo.specs.Finding.{Has, IsBadAt, Loads, KeepsRecords, frames_of, IsOneLog, IsEitherEnd};
 
@@ -138,8 +138,8 @@ pub(crate) fn against<D: LogDisk>(
     written: &[Frame],
     pending: Option<&Frame>,
 ) -> Result<(Found, Vec<Record>, u64), AgainstFault>
-    ensures says { IfOk result (λ r. IfSome (D.story disk.old) (λ s. compared (framed written.now) (option_map (λ f. f.now) pending.entry) (bytes_of s) ≡ Ok r.0)) }
-    ensures differs { IfErr result (λ e. IfSome (D.story disk.old) (λ s. Says (Err e) (compared (framed written.now) (option_map (λ f. f.now) pending.entry) (bytes_of s)))) }
+    ensures says { IfOk result (λ r. Shows written.now (option_map (λ f. f.now) pending.entry) (Ok r.0) (D.story disk.old)) }
+    ensures differs { IfErr result (λ e. Shows written.now (option_map (λ f. f.now) pending.entry) (Err e) (D.story disk.old)) }
     ensures keeps { Both (Keeps written.now (option_map (λ f. f.now) pending.entry)) (D.story disk.old) (D.story disk.new) }
     ensures stands { IfOk result (λ r. Both (Stood written.now (option_map (λ f. f.now) pending.entry) r.0 r.2) (D.story disk.old) (D.story disk.new)) }
     ensures records { IfOk result (λ r. frames_of r.1.items ≡ stood r.0 written.now (option_map (λ f. f.now) pending.entry)) }

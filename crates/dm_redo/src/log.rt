@@ -3,10 +3,10 @@
 ghost use Rattle.std.specs.Prelude.{◌≡◌, ◌≢◌, ◌+◌, ◌≤◌, ◌↔◌, ℕ, IsTrue, OnOk, IfOk, IfErr, IfSome, IsNone, Option, Ok, Err, option_map, length};
 ghost use Rattle.dm_disk.specs.Faults.{Rose};
 ghost use Rattle.dm_logdisk.specs.Story.{Both, bytes_of};
-ghost use Rattle.dm_redo.specs.Holding.{framed, IsAt};
+ghost use Rattle.dm_redo.specs.Holding.{IsAt};
 ghost use Rattle.dm_redo.specs.Appending.{Appends};
 ghost use Rattle.dm_redo.specs.Finding.{Loads, KeepsRecords, IsBadAt, frames_of};
-ghost use Rattle.dm_redo.specs.Comparing.{compared, Says, stood};
+ghost use Rattle.dm_redo.specs.Comparing.{Shows, stood};
 ghost use Rattle.dm_redo.specs.Settling.{Keeps, Stood};
 
 use crate::appending::{Appended, write_frame};
@@ -137,10 +137,10 @@ impl<D: LogDisk> RedoLog<D> {
         written: &[Frame],
         pending: Option<&Frame>,
     ) -> Result<Found, AgainstFault>
-        ensures says { IfOk result (λ found. IfSome (D.story self.old.disk) (λ s. compared (framed written.now) (option_map (λ f. f.now) pending.entry) (bytes_of s) ≡ Ok found)) }
-        ensures differs { IfErr result (λ e. IfSome (D.story self.old.disk) (λ s. Says (Err e) (compared (framed written.now) (option_map (λ f. f.now) pending.entry) (bytes_of s)))) }
+        ensures says { Shows written.now (option_map (λ f. f.now) pending.entry) result (D.story self.old.disk) }
         ensures keeps { Both (Keeps written.now (option_map (λ f. f.now) pending.entry)) (D.story self.old.disk) (D.story self.new.disk) }
-        ensures stands { IfOk result (λ found. Both (Stood written.now (option_map (λ f. f.now) pending.entry) found self.new.gate) (D.story self.old.disk) (D.story self.new.disk)) }
+        ensures stands { IfOk result (λ found.
+            Both (Stood written.now (option_map (λ f. f.now) pending.entry) found self.new.gate) (D.story self.old.disk) (D.story self.new.disk)) }
         ensures records { IfOk result (λ found. frames_of self.new.records ≡ stood found written.now (option_map (λ f. f.now) pending.entry)) }
         ensures live { IfOk result (λ _. IsTrue self.new.live) }
         ensures dead { IfErr result (λ _. IsTrue self.new.live → ⊥) }

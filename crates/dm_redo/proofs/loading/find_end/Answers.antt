@@ -15,7 +15,8 @@ loop-alloc-preserved c =
     let more = open_within c.args.bytes.now c.loop-alloc.gate opens in
     let first = open_is c.args.bytes.now c.loop-alloc.gate opens in
     subst (λ (l : List Record). Finds c.args.bytes.now (c.loop-alloc.gate + (c.in-Ok-Whole.used + 1)) l) (sym c.in-Ok.ensures.items)
-    (found_more c.args.bytes.now c.loop-alloc.gate c.in-Ok-Whole.used c.loop-alloc.records.items c.in-Ok-Whole.rec c.loop-alloc.invariant (omega (arith, more)) first some.0 some.1)
+    (found_more c.args.bytes.now c.loop-alloc.gate c.in-Ok-Whole.used c.loop-alloc.records.items c.in-Ok-Whole.rec c.loop-alloc.invariant
+    (omega (arith, more)) first some.0 some.1)
 
 pub returns-in-Ok-Short-clause-bad : goal.returns-in-Ok-Short-clause-bad
 returns-in-Ok-Short-clause-bad c =
@@ -23,7 +24,8 @@ returns-in-Ok-Short-clause-bad c =
     let opens : is_open (drop c.loop-alloc.gate c.args.bytes.now) ≡ true = sym c.is_open.ensures.same ∙ c.loop-alloc-test.true in
     let more = open_within c.args.bytes.now c.loop-alloc.gate opens in
     let first = open_is c.args.bytes.now c.loop-alloc.gate opens in
-    bad_there c.args.bytes.now c.loop-alloc.gate (is_bad c.args.bytes.now c.loop-alloc.gate c.loop-alloc.records.items c.loop-alloc.invariant more first tells.0)
+    bad_there c.args.bytes.now c.loop-alloc.gate
+    (is_bad c.args.bytes.now c.loop-alloc.gate c.loop-alloc.records.items c.loop-alloc.invariant more first tells.0)
 
 pub returns-in-Ok-Bad-clause-bad : goal.returns-in-Ok-Bad-clause-bad
 returns-in-Ok-Bad-clause-bad c =
@@ -31,4 +33,5 @@ returns-in-Ok-Bad-clause-bad c =
     let opens : is_open (drop c.loop-alloc.gate c.args.bytes.now) ≡ true = sym c.is_open.ensures.same ∙ c.loop-alloc-test.true in
     let more = open_within c.args.bytes.now c.loop-alloc.gate opens in
     let first = open_is c.args.bytes.now c.loop-alloc.gate opens in
-    bad_there c.args.bytes.now c.loop-alloc.gate (is_bad c.args.bytes.now c.loop-alloc.gate c.loop-alloc.records.items c.loop-alloc.invariant more first tells.0)
+    bad_there c.args.bytes.now c.loop-alloc.gate
+    (is_bad c.args.bytes.now c.loop-alloc.gate c.loop-alloc.records.items c.loop-alloc.invariant more first tells.0)

@@ -21,6 +21,8 @@ returns-clause-crash g c =
     let gate = c.in-Ok-find_end.found.1 in
     let recs = c.in-Ok-find_end.found.0.items in
     let same = c.in-Ok-room.ensures.same ∙ c.in-Ok.ensures.same in
-    let tidies = subst (λ (o : Option Story). Both (Tidies {E = Failed} gate (Err c.in-Err-tidy.field-0)) o (g.D.LogDisk.story c.tidy.new.disk)) same c.in-Err-tidy.ensures.story in
-    failed gate recs c.in-Ok.bytes.items (subst (λ (b : List ℕ). Has b gate recs) c.deref.ensures.value c.in-Ok-find_end.ensures.ok) {E = Failed} (Err c.in-Err-tidy.field-0)
+    let tidies = subst (λ (o : Option Story). Both (Tidies {E = Failed} gate (Err c.in-Err-tidy.field-0)) o (g.D.LogDisk.story c.tidy.new.disk)) same
+    c.in-Err-tidy.ensures.story in
+    failed gate recs c.in-Ok.bytes.items (subst (λ (b : List ℕ). Has b gate recs) c.deref.ensures.value c.in-Ok-find_end.ensures.ok) {E = Failed}
+    (Err c.in-Err-tidy.field-0)
     (g.D.LogDisk.story c.args.disk.now) (g.D.LogDisk.story c.tidy.new.disk) c.in-Ok.ensures.told tidies
