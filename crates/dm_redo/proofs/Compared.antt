@@ -76,13 +76,17 @@ not_log true true p1 p2 r1 r2 w1 w2 f e is log = absurd (cc (is, log))
 not_log true false p1 p2 r1 r2 w1 w2 f e is log = absurd (cc is)
 not_log false b p1 p2 r1 r2 w1 w2 f e is log = absurd (cc (is, log))
 
-pub judged_not_log : (expected file : List ℕ) (f : Found) (e : AgainstFault) → judged expected f file ≡ Err e → e ≡ fault.Log → ⊥
+judged_not_log : (expected file : List ℕ) (f : Found) (e : AgainstFault) → judged expected f file ≡ Err e → e ≡ fault.Log → ⊥
 judged_not_log expected file f e is log = not_log (begins expected file) (is_open (drop (length expected) file)) _ _ _ _ _ _ f e is log
 
-pub says_err : (e : AgainstFault) (due : Result Found AgainstFault) → due ≡ Err e → Says (Err e) due
+says_err : (e : AgainstFault) (due : Result Found AgainstFault) → due ≡ Err e → Says (Err e) due
 says_err (fault.Differs place read written) due is = is
 says_err fault.Log due is = tt
 says_err fault.Memory due is = tt
+
+pub judged_err : (expected file : List ℕ) (f : Found) (e : AgainstFault) → judged expected f file ≡ Err e
+    → Says (Err e) (judged expected f file) × (e ≡ fault.Log → ⊥)
+judged_err expected file f e is = (says_err e (judged expected f file) is, judged_not_log expected file f e is)
 
 pub framed_one : (frames : List (List ℕ)) (frame : List ℕ) → framed (frames ++ frame ∷ []) ≡ framed frames ++ 1 ∷ frame
 framed_one [] frame = ap (λ (l : List ℕ). 1 ∷ l) (append-nil frame)

@@ -78,7 +78,7 @@ fn judge(expected: &[u8], found: Found, file: &[u8]) -> Result<Found, AgainstFau
     Ok(found)
 }
 
-#[tactic(auto, using(crate::proofs::Compared::judged_same, crate::proofs::Compared::judged_not_log, crate::proofs::Compared::says_err, crate::proofs::Agreeing::judged_apart,))]
+#[tactic(auto, using(crate::proofs::Compared::judged_same, crate::proofs::Compared::judged_err, crate::proofs::Agreeing::judged_apart))]
 fn answer(expected: &[u8], found: Found, file: &[u8]) -> Result<(Found, usize), AgainstFault>
     ensures ok { IfOk result (λ r. (judged expected.now found file.now ≡ Ok found) × (r ≡ (found, length expected.now))) }
     ensures err { IfErr result (λ e. Says (Err e) (judged expected.now found file.now) × (e ≡ AgainstFault.Log → ⊥)) }
