@@ -81,8 +81,8 @@ module _ (recs : List Record) (a b : Record) where
     once x o n h = both_map (Appends gate first x) (LeavesOneOf lists recs gate) (one_crash x) o n h
 
     -- the second was appended too, or there was no room for it
-    pub twice : {E : Type 0} (result : Result Appended E) (then_gate : ℕ) (o m n : Option Story) → then_gate ≡ gate + length first + 1 → Both (Appends gate first Done) o m
-        → IfOk result (λ x. Both (Appends then_gate second x) m n) → OnErr result (n ≡ m) → Both (LeavesOneOf lists recs gate) o n
+    pub twice : {E : Type 0} (result : Result Appended E) (then_gate : ℕ) (o m n : Option Story) → then_gate ≡ gate + length first + 1
+        → Both (Appends gate first Done) o m → IfOk result (λ x. Both (Appends then_gate second x) m n) → OnErr result (n ≡ m) → Both (LeavesOneOf lists recs gate) o n
     twice (Ok x) then_gate o m n place one two same =
         both_then (Appends gate first Done) (Appends (gate + length first + 1) second x) (LeavesOneOf lists recs gate) (two_crash x) o m n one
         (subst (λ (g : ℕ). Both (Appends g second x) m n) place two)

@@ -1,58 +1,20 @@
 //! What is left of an append that failed, and of a run that was cut off after any number of calls.
 
-use crate::samples::{COMMIT, GRANT, RELEASE, append, file, frame, kinds};
-use dm_event::NoMemory;
+use crate::samples::{COMMIT, GRANT, RELEASE, append, drawn, frame, kinds};
 use dm_logdisk::{Call, Fail as DiskFail, FileDisk, MemDisk, Pick};
 use dm_redo::{Appended, RedoLog};
 use std::alloc::Global;
 use std::fs;
 use std::test::Fail;
 
-/// The release with each byte lost that stands at an odd place behind the file of the commit.
-const TORN: [u8; 33] = [
-    255, 0, 255, 29, 255, 0, 255, 0, 255, 0, 255, 0, 255, 0, 255, 2, 255, 0, 255, 0, 255, 0, 255,
-    0, 255, 0, 255, 0, 255, 0, 255, 0, 255,
-];
-
-/// What stands on a disk of the commit, to which the release was appended.
-#[derive(Clone, Copy, Debug, PartialEq, Eq)]
-enum Left {
-    /// The commit alone.
-    Before,
-    /// The release too, behind a closed gate.
-    Closed,
-    /// The same, torn.
-    Torn,
-    /// The release too, behind an open gate.
-    Open,
-}
-
-impl Left {
-    fn bytes(self, alloc: Global) -> Result<Vec<u8>, NoMemory> {
-        match self {
-            Left::Before => file(alloc, &[&[1], &COMMIT, &[0]]),
-            Left::Closed => file(alloc, &[&[1], &COMMIT, &[0], &RELEASE, &[0]]),
-            Left::Torn => file(alloc, &[&[1], &COMMIT, &[0], &TORN, &[0]]),
-            Left::Open => file(alloc, &[&[1], &COMMIT, &[1], &RELEASE, &[0]]),
-        }
-    }
-
-    /// The kinds of the records that it holds.
-    fn kinds(self) -> &'static [u8] {
-        match self {
-            Left::Open => &[1, 2],
-            _ => &[1],
-        }
-    }
-}
-
 /// The kinds of the records that a load of these bytes finds.
-fn found(alloc: Global, bytes: Vec<u8>) -> Option<Vec<u8>> {
+fn found(alloc: Global, bytes: Vec<u8>) -> Option<String> {
     let log = RedoLog::load(alloc, MemDisk::new(bytes, Vec::new(alloc))).ok()?;
     kinds(alloc, log.records()).ok()
 }
 
-/// Each changing call of an append fails once: its answer, what a read gives, and what each pick of a crash leaves.
+/// Each changing call of an append of a release to the log of a commit fails once: its answer, what a read gives, and what each pick of a
+/// crash leaves, with the records that a load finds there.
 #[test]
 fn failing(rt: HostRuntime) -> Result<(), Fail> {
     let alloc = rt.alloc();
@@ -63,56 +25,64 @@ fn failing(rt: HostRuntime) -> Result<(), Fail> {
             1,
             true,
             Appended::Undone,
-            [Left::Closed, Left::Before, Left::Torn],
+            "1c0r0",
+            "1c0",
+            "1c0t0",
         ),
-        (
-            Call::Write,
-            1,
-            false,
-            Appended::Undone,
-            [Left::Before, Left::Before, Left::Before],
-        ),
+        (Call::Write, 1, false, Appended::Undone, "1c0", "1c0", "1c0"),
         (
             Call::Sync,
             1,
             true,
             Appended::Undone,
-            [Left::Closed, Left::Closed, Left::Closed],
+            "1c0r0",
+            "1c0r0",
+            "1c0r0",
         ),
         (
             Call::Sync,
             1,
             false,
             Appended::Undone,
-            [Left::Closed, Left::Before, Left::Torn],
+            "1c0r0",
+            "1c0",
+            "1c0t0",
         ),
         (
             Call::Write,
             2,
             true,
             Appended::Doubt,
-            [Left::Open, Left::Closed, Left::Open],
+            "1c1r0",
+            "1c0r0",
+            "1c1r0",
         ),
         (
             Call::Write,
             2,
             false,
             Appended::Doubt,
-            [Left::Closed, Left::Closed, Left::Closed],
+            "1c0r0",
+            "1c0r0",
+            "1c0r0",
         ),
         (
             Call::Sync,
             2,
             true,
             Appended::Doubt,
-            [Left::Open, Left::Open, Left::Open],
+            "1c1r0",
+            "1c1r0",
+            "1c1r0",
         ),
         (
             Call::Sync,
             2,
             false,
             Appended::Doubt,
-            [Left::Open, Left::Closed, Left::Open],
+            "1c1r0",
+            "1c0r0",
+            "1c1r0",
         ),
         // none of them
         (
@@ -120,25 +90,28 @@ fn failing(rt: HostRuntime) -> Result<(), Fail> {
             3,
             false,
             Appended::Done,
-            [Left::Open, Left::Open, Left::Open],
+            "1c1r0",
+            "1c1r0",
+            "1c1r0",
         ),
     ];
-    for (call, nth, effect, answer, lefts) in rows {
+    for (call, nth, effect, answer, read, kept, torn) in rows {
         let fail = DiskFail { call, nth, effect };
-        let disk = MemDisk::new(Left::Before.bytes(alloc)?, vec![in alloc; fail]?);
+        let disk = MemDisk::new(drawn(alloc, "1c0")?, vec![in alloc; fail]?);
         let mut log = RedoLog::load(alloc, disk).ok().ok_or("no log")?;
         assert_eq!(rt; append(&mut log, &release), Some(answer), "{call:?} {nth}");
         assert_eq!(rt; log.is_live(), answer == Appended::Done);
         let disk = log.into_disk();
-        for (pick, left) in [Pick::Read, Pick::Kept, Pick::Torn].into_iter().zip(lefts) {
+        for (pick, left) in [(Pick::Read, read), (Pick::Kept, kept), (Pick::Torn, torn)] {
             let bytes = disk.crash(alloc, pick)?;
             assert_eq!(rt;
                 bytes.as_slice(),
-                left.bytes(alloc)?.as_slice(),
+                drawn(alloc, left)?.as_slice(),
                 "{call:?} {nth} {pick:?}"
             );
             let records = found(alloc, bytes).ok_or("no log")?;
-            assert_eq!(rt; records.as_slice(), left.kinds(), "{call:?} {nth} {pick:?}");
+            let want = if left == "1c1r0" { "cr" } else { "c" };
+            assert_eq!(rt; records.as_str(), want, "{call:?} {nth} {pick:?}");
         }
     }
     Ok(())
@@ -174,7 +147,7 @@ fn fused(rt: HostRuntime) -> Result<(), Fail> {
                 done <= records.len() && records.len() <= done + 1,
                 "{calls} {pick:?}"
             );
-            assert!(rt; [1, 2, 3].starts_with(&records), "{calls} {pick:?}");
+            assert!(rt; "crg".starts_with(records.as_str()), "{calls} {pick:?}");
         }
     }
     Ok(())
@@ -185,17 +158,17 @@ fn fused(rt: HostRuntime) -> Result<(), Fail> {
 fn on_the_host(rt: HostRuntime) -> Result<(), Fail> {
     let alloc = rt.alloc();
     let release = frame(alloc, &RELEASE).ok_or("a frame")?;
-    fs::write(&rt, "one.log", Left::Before.bytes(alloc)?.as_slice())?;
+    fs::write(&rt, "one.log", drawn(alloc, "1c0")?.as_slice())?;
     let disk = FileDisk::new(rt, String::from_str(alloc, "one.log")?);
     let mut log = RedoLog::load(alloc, disk).ok().ok_or("no log")?;
     assert_eq!(rt; append(&mut log, &release), Some(Appended::Done));
     assert_eq!(rt;
         fs::read(&rt, "one.log")?.as_slice(),
-        Left::Open.bytes(alloc)?.as_slice()
+        drawn(alloc, "1c1r0")?.as_slice()
     );
     let again = FileDisk::new(rt, String::from_str(alloc, "one.log")?);
     let log = RedoLog::load(alloc, again).ok().ok_or("no log")?;
-    assert_eq!(rt; kinds(alloc, log.records())?.as_slice(), [1, 2].as_slice());
+    assert_eq!(rt; kinds(alloc, log.records())?.as_str(), "cr");
     fs::remove_file(&rt, "one.log")?;
     Ok(())
 }

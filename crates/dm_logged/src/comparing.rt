@@ -2,7 +2,7 @@
 
 ghost use Rattle.std.specs.Prelude.{◌^◌, None};
 
-use crate::samples::{COMMIT, GRANT, RELEASE, append, file, frame, kinds};
+use crate::samples::{COMMIT, RELEASE, append, drawn, frame, kinds};
 use dm_event::{Found, NoMemory};
 use dm_logdisk::{Call, Fail as DiskFail, Failed, LogDisk, LyingDisk, MemDisk};
 use dm_redo::{AgainstFault, Appended, RedoLog};
@@ -64,93 +64,55 @@ fn differs(place: u64, read: Option<u8>, written: Option<u8>) -> Result<Found, A
     })
 }
 
-/// The commit was written, and with a flag the release is pending: each file, and the answer.
+/// The commit was written, and with a flag the release is pending: each file, cut to so many bytes, and the answer.
 #[test]
 fn answers(rt: HostRuntime) -> Result<(), Fail> {
     let alloc = rt.alloc();
     let commit = frame(alloc, &COMMIT).ok_or("a frame")?;
     let release = frame(alloc, &RELEASE).ok_or("a frame")?;
     let written = vec![in alloc; commit]?;
-    let rows: [(bool, &[&[u8]], Result<Found, AgainstFault>); 20] = [
+    let rows = [
         // it stands, and the log ends: at a closed gate, or where the file does
-        (false, &[&[1], &COMMIT, &[0]], Ok(Found::Clean)),
-        (false, &[&[1], &COMMIT], Ok(Found::Clean)),
-        (false, &[&[1], &COMMIT, &[1]], Ok(Found::Clean)),
-        (
-            false,
-            &[&[1], &COMMIT, &[0], &RELEASE, &[0]],
-            Ok(Found::Clean),
-        ),
-        (true, &[&[1], &COMMIT, &[0]], Ok(Found::Lost)),
-        (true, &[&[1], &COMMIT], Ok(Found::Lost)),
-        (
-            true,
-            &[&[1], &COMMIT, &[0], &RELEASE, &[0]],
-            Ok(Found::Lost),
-        ),
-        (
-            true,
-            &[&[1], &COMMIT, &[1], &RELEASE, &[0]],
-            Ok(Found::Kept),
-        ),
-        (true, &[&[1], &COMMIT, &[1], &RELEASE], Ok(Found::Kept)),
-        (
-            true,
-            &[&[1], &COMMIT, &[1], &RELEASE, &[9, 9]],
-            Ok(Found::Kept),
-        ),
+        (false, "1c0", 61, Ok(Found::Clean)),
+        (false, "1c0", 60, Ok(Found::Clean)),
+        (false, "1c1", 61, Ok(Found::Clean)),
+        (false, "1c0r0", 95, Ok(Found::Clean)),
+        (true, "1c0", 61, Ok(Found::Lost)),
+        (true, "1c0", 60, Ok(Found::Lost)),
+        (true, "1c0r0", 95, Ok(Found::Lost)),
+        (true, "1c1r0", 95, Ok(Found::Kept)),
+        (true, "1c1r0", 94, Ok(Found::Kept)),
+        (true, "1c1r99", 96, Ok(Found::Kept)),
         // more than was written
-        (
-            false,
-            &[&[1], &COMMIT, &[1], &RELEASE, &[0]],
-            differs(60, Some(1), None),
-        ),
-        (
-            true,
-            &[&[1], &COMMIT, &[1], &RELEASE, &[1], &GRANT, &[0]],
-            differs(94, Some(1), None),
-        ),
+        (false, "1c1r0", 95, differs(60, Some(1), None)),
+        (true, "1c1r1g0", 128, differs(94, Some(1), None)),
         // another frame than the pending one: they part at their lengths
-        (
-            true,
-            &[&[1], &COMMIT, &[1], &GRANT, &[0]],
-            differs(64, Some(28), Some(29)),
-        ),
-        (
-            true,
-            &[&[1], &COMMIT, &[1], &RELEASE[..9]],
-            differs(70, None, Some(0)),
-        ),
+        (true, "1c1g0", 94, differs(64, Some(28), Some(29))),
+        (true, "1c1r0", 70, differs(70, None, Some(0))),
         // less than was written
-        (false, &[], differs(0, None, Some(1))),
-        (false, &[&[1], &COMMIT[..9]], differs(10, None, Some(0))),
-        (true, &[&[1], &COMMIT[..9]], differs(10, None, Some(0))),
+        (false, "", 0, differs(0, None, Some(1))),
+        (false, "1c0", 10, differs(10, None, Some(0))),
+        (true, "1c0", 10, differs(10, None, Some(0))),
         // another byte
-        (false, &[&[0], &COMMIT, &[0]], differs(0, Some(0), Some(1))),
-        (
-            false,
-            &[&[1], &RELEASE, &[0]],
-            differs(4, Some(29), Some(55)),
-        ),
-        (
-            true,
-            &[&[1], &COMMIT[..58], &[6, 1], &RELEASE, &[0]],
-            differs(59, Some(6), Some(5)),
-        ),
+        (false, "0c0", 61, differs(0, Some(0), Some(1))),
+        (false, "1r0", 35, differs(4, Some(29), Some(55))),
+        (true, "1r0", 35, differs(4, Some(29), Some(55))),
     ];
-    for (n, (is_pending, pieces, want)) in rows.iter().enumerate() {
+    for (is_pending, text, keep, want) in rows {
+        let mut next = drawn(alloc, text)?;
+        next.truncate(keep);
         let disk = Swapped {
             file: Vec::new(alloc),
-            next: file(alloc, pieces)?,
+            next,
         };
         let mut log = RedoLog::load(alloc, disk).ok().ok_or("no log")?;
-        let pending = if *is_pending { Some(&release) } else { None };
+        let pending = if is_pending { Some(&release) } else { None };
         assert_eq!(rt;
             log.load_against(alloc, &written, pending),
-            *want,
-            "row {n}"
+            want,
+            "{text} {keep}"
         );
-        assert_eq!(rt; log.is_live(), want.is_ok(), "row {n}");
+        assert_eq!(rt; log.is_live(), want.is_ok(), "{text} {keep}");
     }
     Ok(())
 }
@@ -162,8 +124,6 @@ fn after_failures(rt: HostRuntime) -> Result<(), Fail> {
     let commit = frame(alloc, &COMMIT).ok_or("a frame")?;
     let release = frame(alloc, &RELEASE).ok_or("a frame")?;
     let written = vec![in alloc; commit]?;
-    let lost: &[&[u8]] = &[&[1], &COMMIT, &[0]];
-    let kept: &[&[u8]] = &[&[1], &COMMIT, &[1], &RELEASE, &[0]];
     let rows = [
         (Call::Write, 1, true, Found::Lost),
         (Call::Write, 1, false, Found::Lost),
@@ -191,7 +151,7 @@ fn after_failures(rt: HostRuntime) -> Result<(), Fail> {
                     effect: false,
                 },
             ];
-            let disk = MemDisk::new(file(alloc, lost)?, fails.to_vec(alloc)?);
+            let disk = MemDisk::new(drawn(alloc, "1c0")?, fails.to_vec(alloc)?);
             let mut log = RedoLog::load(alloc, disk).ok().ok_or("no log")?;
             assert_ne!(rt; append(&mut log, &release), Some(Appended::Done));
             assert!(rt; !log.is_live());
@@ -203,13 +163,13 @@ fn after_failures(rt: HostRuntime) -> Result<(), Fail> {
                 }
             }
             assert_eq!(rt; answer, Ok(want), "{call:?} {nth} {later:?} {at}");
-            let (left, records): (&[&[u8]], &[u8]) = if want == Found::Kept {
-                (kept, &[1, 2])
+            let (left, records) = if want == Found::Kept {
+                ("1c1r0", "cr")
             } else {
-                (lost, &[1])
+                ("1c0", "c")
             };
-            assert_eq!(rt; kinds(alloc, log.records())?.as_slice(), records);
-            assert_eq!(rt; log.into_disk().bytes(), file(alloc, left)?.as_slice());
+            assert_eq!(rt; kinds(alloc, log.records())?.as_str(), records);
+            assert_eq!(rt; log.into_disk().bytes(), drawn(alloc, left)?.as_slice());
         }
     }
     Ok(())
@@ -221,7 +181,7 @@ fn lying(rt: HostRuntime) -> Result<(), Fail> {
     let alloc = rt.alloc();
     let commit = frame(alloc, &COMMIT).ok_or("a frame")?;
     // another seq than was written: the load can't tell
-    let disk = LyingDisk::new(file(alloc, &[&[1], &COMMIT, &[0]])?, 29, 7);
+    let disk = LyingDisk::new(drawn(alloc, "1c0")?, 29, 7);
     let mut log = RedoLog::load(alloc, disk).ok().ok_or("no log")?;
     let written = vec![in alloc; commit]?;
     assert_eq!(rt;

@@ -1,6 +1,6 @@
 //! What a load finds in a file, and what it leaves there.
 
-use crate::samples::{COMMIT, GRANT, RELEASE, file, kinds};
+use crate::samples::{drawn, kinds};
 use dm_event::NoMemory;
 use dm_logdisk::{Call, Fail as DiskFail, MemDisk};
 use dm_record::Record;
@@ -9,7 +9,7 @@ use std::alloc::Global;
 use std::test::Fail;
 
 /// What a load found: the kinds of the records, and the file behind it; or how it failed, and the file as it was left.
-fn loaded(alloc: Global, disk: MemDisk) -> Result<(Result<Vec<u8>, LoadFault>, Vec<u8>), NoMemory> {
+fn loaded(alloc: Global, disk: MemDisk) -> Result<(Result<String, LoadFault>, Vec<u8>), NoMemory> {
     match RedoLog::load(alloc, disk) {
         Ok(log) => {
             let found = kinds(alloc, log.records())?;
@@ -20,48 +20,50 @@ fn loaded(alloc: Global, disk: MemDisk) -> Result<(Result<Vec<u8>, LoadFault>, V
     }
 }
 
-/// Each file: what is found in it, and the file that is left.
+/// Each file, cut to so many bytes: what is found in it, and the file that is left; where it is bad, it is left as it was.
 #[test]
 fn files(rt: HostRuntime) -> Result<(), Fail> {
     let alloc = rt.alloc();
-    let whole = file(alloc, &[&[1], &COMMIT, &[0]])?;
-    let bad = Err(LoadFault::Bad { place: 0 });
-    let three: &[&[u8]] = &[&[1], &COMMIT, &[1], &RELEASE, &[1], &GRANT, &[0]];
-    let rows: [(&[&[u8]], Result<&[u8], LoadFault>, &[&[u8]]); 14] = [
-        (&[&whole], Ok(&[1]), &[&whole]),
-        (&[&[1], &COMMIT], Ok(&[1]), &[&whole]),
-        (&[&whole[..40]], bad, &[&whole[..40]]),
-        (&[&whole, &[255, 255]], Ok(&[1]), &[&whole]),
-        (&[], Ok(&[]), &[&[0]]),
+    let rows = [
+        ("1c0", 61, Ok("c"), "1c0"),
+        ("1c0", 60, Ok("c"), "1c0"),
+        ("1c0", 40, Err(LoadFault::Bad { place: 0 }), ""),
+        ("1c0ff", 63, Ok("c"), "1c0"),
+        ("", 0, Ok(""), "0"),
         // a gate byte that is the last byte is closed, whatever it is
-        (&[&[0]], Ok(&[]), &[&[0]]),
-        (&[&[1]], Ok(&[]), &[&[0]]),
-        (&[&[1], &COMMIT, &[1]], Ok(&[1]), &[&whole]),
+        ("0", 1, Ok(""), "0"),
+        ("1", 1, Ok(""), "0"),
+        ("1c1", 61, Ok("c"), "1c0"),
         // and so is any other than 1
-        (&[&[2, 2, 2]], Ok(&[]), &[&[0]]),
-        (&[&[1], &COMMIT, &[0], &COMMIT, &[0]], Ok(&[1]), &[&whole]),
-        (&[&whole, &[0]], Ok(&[1]), &[&whole]),
+        ("222", 3, Ok(""), "0"),
+        ("1c0c0", 121, Ok("c"), "1c0"),
+        ("1c00", 62, Ok("c"), "1c0"),
         // an open gate, and no frame behind it
-        (
-            &[&[1], &COMMIT, &[1, 0]],
-            Err(LoadFault::Bad { place: 60 }),
-            &[&[1], &COMMIT, &[1, 0]],
-        ),
-        (three, Ok(&[1, 2, 3]), three),
-        (
-            &[&[1], &GRANT, &[1], &COMMIT, &[0, 9]],
-            Ok(&[3, 1]),
-            &[&[1], &GRANT, &[1], &COMMIT, &[0]],
-        ),
+        ("1c10", 62, Err(LoadFault::Bad { place: 60 }), ""),
+        ("1c1r0", 93, Err(LoadFault::Bad { place: 60 }), ""),
+        ("1c1r1g0", 128, Ok("crg"), "1c1r1g0"),
+        ("1g1c09", 95, Ok("gc"), "1g1c0"),
     ];
-    for (n, (pieces, want, left)) in rows.iter().enumerate() {
-        let (found, now) = loaded(alloc, MemDisk::new(file(alloc, pieces)?, Vec::new(alloc)))?;
-        match (&found, want) {
-            (Ok(found), Ok(want)) => assert_eq!(rt; found.as_slice(), *want, "row {n}"),
-            (Err(fault), Err(want)) => assert_eq!(rt; fault, want, "row {n}"),
+    for (text, keep, want, left) in rows {
+        let mut bytes = drawn(alloc, text)?;
+        bytes.truncate(keep);
+        let before = bytes.to_vec(alloc)?;
+        let (found, now) = loaded(alloc, MemDisk::new(bytes, Vec::new(alloc)))?;
+        match (found, want) {
+            (Ok(found), Ok(want)) => {
+                assert_eq!(rt; found.as_str(), want, "{text} {keep}");
+                assert_eq!(rt;
+                    now.as_slice(),
+                    drawn(alloc, left)?.as_slice(),
+                    "{text} {keep}"
+                );
+            }
+            (Err(fault), Err(want)) => {
+                assert_eq!(rt; fault, want, "{text} {keep}");
+                assert_eq!(rt; now.as_slice(), before.as_slice(), "{text} {keep}");
+            }
             _ => return Err("the other answer".into()),
         }
-        assert_eq!(rt; now.as_slice(), file(alloc, left)?.as_slice(), "row {n}");
     }
     Ok(())
 }
@@ -70,7 +72,7 @@ fn files(rt: HostRuntime) -> Result<(), Fail> {
 #[test]
 fn idle(rt: HostRuntime) -> Result<(), Fail> {
     let alloc = rt.alloc();
-    let whole = file(alloc, &[&[1], &COMMIT, &[0]])?;
+    let whole = drawn(alloc, "1c0")?;
     let mut fails = Vec::new(alloc);
     for call in [Call::Cut, Call::Write, Call::Sync] {
         fails.push(DiskFail {
@@ -92,7 +94,7 @@ enum Seen {
     Bad,
 }
 
-fn seen(answer: &Result<RedoLog<MemDisk>, (MemDisk, LoadFault)>) -> Option<Seen> {
+fn answer_of(answer: &Result<RedoLog<MemDisk>, (MemDisk, LoadFault)>) -> Option<Seen> {
     match answer {
         Ok(log) => match log.records() {
             [] => Some(Seen::None),
@@ -108,7 +110,7 @@ fn seen(answer: &Result<RedoLog<MemDisk>, (MemDisk, LoadFault)>) -> Option<Seen>
 #[test]
 fn one_byte_changed(rt: HostRuntime) -> Result<(), Fail> {
     let alloc = rt.alloc();
-    let whole = file(alloc, &[&[1], &COMMIT, &[0]])?;
+    let whole = drawn(alloc, "1c0")?;
     let rows = [
         // the gate
         (0, 0, [Seen::None, Seen::One, Seen::None]),
@@ -146,7 +148,7 @@ fn one_byte_changed(rt: HostRuntime) -> Result<(), Fail> {
                     *there = byte;
                 }
                 let answer = RedoLog::load(alloc, MemDisk::new(bytes, Vec::new(alloc)));
-                assert_eq!(rt; seen(&answer), Some(want), "{byte} at {place}");
+                assert_eq!(rt; answer_of(&answer), Some(want), "{byte} at {place}");
             }
         }
     }
@@ -159,7 +161,7 @@ fn failing(rt: HostRuntime) -> Result<(), Fail> {
     let alloc = rt.alloc();
     for call in [Call::Len, Call::Read, Call::Cut, Call::Write, Call::Sync] {
         for effect in [false, true] {
-            let bytes = file(alloc, &[&[1], &COMMIT, &[2, 9]])?;
+            let bytes = drawn(alloc, "1c29")?;
             let fail = DiskFail {
                 call,
                 nth: 1,
@@ -174,10 +176,7 @@ fn failing(rt: HostRuntime) -> Result<(), Fail> {
             assert_eq!(rt; fault, LoadFault::Log);
             let (found, left) = loaded(alloc, disk)?;
             assert_eq!(rt; found.map(|found| found.len()), Ok(1));
-            assert_eq!(rt;
-                left.as_slice(),
-                file(alloc, &[&[1], &COMMIT, &[0]])?.as_slice()
-            );
+            assert_eq!(rt; left.as_slice(), drawn(alloc, "1c0")?.as_slice());
         }
     }
     Ok(())

@@ -41,23 +41,37 @@ pub(crate) fn frame(alloc: Global, bytes: &[u8]) -> Option<Frame> {
     }
 }
 
-/// The file of these pieces, one behind the other.
-pub(crate) fn file(alloc: Global, pieces: &[&[u8]]) -> Result<Vec<u8>, NoMemory> {
+/// The release with each byte lost that stands at an odd place behind the file of the commit.
+const TORN: [u8; 33] = [
+    255, 0, 255, 29, 255, 0, 255, 0, 255, 0, 255, 0, 255, 0, 255, 2, 255, 0, 255, 0, 255, 0, 255,
+    0, 255, 0, 255, 0, 255, 0, 255, 0, 255,
+];
+
+/// The file that a text draws: c, r and g are the frames of the commit, the release and the grant, t is the torn release, f is the byte 255, and
+/// a digit is that byte.
+pub(crate) fn drawn(alloc: Global, text: &str) -> Result<Vec<u8>, NoMemory> {
     let mut bytes = Vec::new(alloc);
-    for piece in pieces {
-        bytes.extend_from_slice(piece)?;
+    for letter in text.bytes() {
+        match letter {
+            b'c' => bytes.extend_from_slice(&COMMIT)?,
+            b'r' => bytes.extend_from_slice(&RELEASE)?,
+            b'g' => bytes.extend_from_slice(&GRANT)?,
+            b't' => bytes.extend_from_slice(&TORN)?,
+            b'f' => bytes.push(255)?,
+            _ => bytes.push(letter.wrapping_sub(b'0'))?,
+        }
     }
     Ok(bytes)
 }
 
-/// The kinds of the records, as their bytes have them.
-pub(crate) fn kinds(alloc: Global, records: &[Record]) -> Result<Vec<u8>, NoMemory> {
-    let mut kinds = Vec::new(alloc);
+/// The kinds of the records, as letters of such a text.
+pub(crate) fn kinds(alloc: Global, records: &[Record]) -> Result<String, NoMemory> {
+    let mut kinds = String::new(alloc);
     for record in records {
         kinds.push(match record {
-            Record::Commit { .. } => 1,
-            Record::Release { .. } => 2,
-            Record::Grant { .. } => 3,
+            Record::Commit { .. } => 'c',
+            Record::Release { .. } => 'r',
+            Record::Grant { .. } => 'g',
         })?;
     }
     Ok(kinds)
