@@ -1,0 +1,11 @@
+pub mod Places
+pub mod Stages
+pub mod Exits
+pub mod Ending
+pub mod Reading
+pub mod OneLog
+pub mod Finding
+pub mod Settled
+pub mod Compared
+pub mod Agreeing
+pub mod Againsts

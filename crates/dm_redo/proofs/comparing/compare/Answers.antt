@@ -1,0 +1,19 @@
+use Rattle.std.proofs.Common.{◌≡◌, ◌∙◌, sym, ap, ℕ, List, length, ◌++◌, ◌∷◌}
+use Rattle.std.specs.Prelude.{Option, Some, option_map}
+use Rattle.dm_event.specs.declared.step.Found.{Found}
+use Rattle.dm_redo.specs.Holding.{framed}
+use Rattle.dm_redo.specs.Comparing.{stood}
+use Rattle.dm_redo.proofs.Againsts.{kept_gate, kept_frames, ok_on}
+use Rattle.dm_redo.proofs.comparing.compare.Goals as goal
+
+pub returns-clause-gate : goal.returns-clause-gate
+returns-clause-gate c =
+    ok_on _ _ c.answer-in-Some.result c.answer-in-Some.ensures.ok (λ r h.
+    kept_gate c.args.written.now _ c.in-Some.frame.now c.deref-in-Some-2.result.now r (ap (option_map (λ f. f.now)) c.in-Some.is)
+    (c.deref-in-Some-2.ensures.value ∙ c.in-Ok-put.ensures.put ∙ ap (λ (l : List ℕ). l ++ 1 ∷ c.in-Some.frame.now) c.in-Ok.ensures.joined) h.1)
+
+pub returns-clause-frames : goal.returns-clause-frames
+returns-clause-frames c =
+    ok_on _ _ c.answer-in-Some.result c.answer-in-Some.ensures.ok (λ r h.
+    kept_frames c.args.written.now _ c.in-Some.frame.now c.deref-in-Some-2.result.now r (ap (option_map (λ f. f.now)) c.in-Some.is)
+    c.in-Ok.ensures.frames c.in-Ok-put.ensures.frame h.1)
