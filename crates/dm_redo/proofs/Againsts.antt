@@ -1,5 +1,5 @@
 -- From a comparison and the tidying behind it to what load_against leaves.
-use Rattle.std.proofs.Common.{◌≡◌, refl, sym, ◌∙◌, ap, subst, ℕ, ◌+◌, ◌<◌, List, [], ◌∷◌, ◌++◌, length, take, drop, get_or, arith}
+use Rattle.std.proofs.Common.{◌≡◌, sym, ◌∙◌, ap, subst, ℕ, ◌+◌, ◌<◌, List, [], ◌∷◌, ◌++◌, length, take, drop, get_or, arith}
 use Rattle.std.proofs.lemmas.List.{same_lists, places}
 use Rattle.std.specs.Prelude.{Option, Some, None, Result, Ok, Err, IfSome, IfOk}
 use Rattle.dm_event.specs.declared.step.Found.{Found}
@@ -7,7 +7,7 @@ use Rattle.dm_event.specs.declared.step.Found.TheVariants as found
 use Rattle.dm_logdisk.specs.Story.{Story, bytes_of, Both}
 use Rattle.dm_record.specs.declared.record.Record.{Record}
 use Rattle.dm_record.specs.Frames.{IsSomeFrame}
-use Rattle.dm_redo.specs.Holding.{framed, IsEnd, Stands}
+use Rattle.dm_redo.specs.Holding.{framed, Stands}
 use Rattle.dm_redo.specs.Comparing.{compared, stood, AreFrames}
 use Rattle.dm_redo.specs.Finding.{Has, frames_of}
 use Rattle.dm_redo.specs.Settling.{Firms, Keeps, Stood}

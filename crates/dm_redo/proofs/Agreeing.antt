@@ -1,6 +1,6 @@
 -- A file that holds what was written agrees with it; and where one doesn't, two bytes differ.
-use Rattle.std.proofs.Common.{◌≡◌, ◌≢◌, ◌⊎◌, inl, inr, refl, sym, ◌∙◌, ap, subst, ℕ, zero, suc, ◌+◌, Bool, true, false, cond, eqb, ◌&&◌, List, [], ◌∷◌, ◌++◌, length, drop, arith, append_assoc}
-use Rattle.std.proofs.lemmas.Bool.{eqb-true, eqb-false, eq-eqb, ne_eqb}
+use Rattle.std.proofs.Common.{◌≡◌, ◌≢◌, inl, inr, refl, sym, ◌∙◌, ap, subst, ℕ, suc, Bool, true, false, cond, eqb, ◌&&◌, List, [], ◌∷◌, ◌++◌, length, drop, append_assoc}
+use Rattle.std.proofs.lemmas.Bool.{eqb-false, eq-eqb, ne_eqb}
 use Rattle.std.proofs.lemmas.List.{drop_at}
 use Rattle.std.specs.Prelude.{Option, Some, None, Result, Ok, Err, slice_get}
 use Rattle.dm_event.specs.declared.step.Found.{Found}
@@ -8,10 +8,9 @@ use Rattle.dm_event.specs.declared.step.Found.TheVariants as found
 use Rattle.dm_redo.specs.declared.comparing.AgainstFault.{AgainstFault}
 use Rattle.dm_redo.specs.declared.comparing.AgainstFault.TheVariants as fault
 use Rattle.dm_redo.specs.Holding.{framed, IsEnd, Holds}
-use Rattle.dm_redo.specs.Comparing.{common, begins, is_open, judged, compared, stood}
-use Rattle.dm_redo.specs.Settling.{MayHold, Agrees, IsAgreed}
+use Rattle.dm_redo.specs.Comparing.{common, begins, is_open, judged, compared}
+use Rattle.dm_redo.specs.Settling.{Agrees, IsAgreed}
 use Rattle.dm_redo.proofs.Places.{framed_push}
-use Rattle.dm_redo.proofs.Compared.{framed_one}
 
 -- where the expected bytes don't all stand in the file, the first that differs is another there, or isn't there
 common_differs : (expected file : List ℕ) → (common expected file ≡ length expected → ⊥)

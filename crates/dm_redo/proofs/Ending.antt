@@ -1,10 +1,10 @@
 -- What tidying leaves.
-use Rattle.std.proofs.Common.{◌≡◌, ◌≢◌, ◌⊎◌, inl, inr, refl, sym, ◌∙◌, ap, subst, ℕ, zero, suc, ◌+◌, ◌-◌, ◌≤◌, ◌<◌, Bool, true, false, List, [], ◌∷◌, ◌++◌, length, take, drop, get_or, arith, append_assoc, length-append, length-drop, take-append-drop, min}
+use Rattle.std.proofs.Common.{◌≡◌, inl, inr, refl, sym, ◌∙◌, ap, subst, ℕ, zero, suc, ◌+◌, ◌≤◌, Bool, true, false, List, [], ◌∷◌, ◌++◌, length, take, drop, arith, length-append, length-drop, take-append-drop, min}
 use Rattle.std.proofs.lemmas.List.{take_at, take_all, append-nil}
 use Rattle.std.specs.Prelude.{Option, Some, None, Result, Ok, Err, IfSome, OnOk}
-use Rattle.dm_logdisk.specs.Story.{Change, wrote, cut_to, synced, Story, noted, bytes_of, IsImage, EachImage, IsDurable, after, EachMoment, LeavesOnly, Both, Torn, overwritten}
-use Rattle.dm_logdisk.proofs.Images.{sync_keeps, read_is_image, Goes, goes_not, goes_on, both_goes, leaves_then, both_then, overwritten_end, overwritten_within}
-use Rattle.dm_redo.specs.Holding.{framed, IsEnd, Holds, Stands, IsAt, IsBeforeOrAfter}
+use Rattle.dm_logdisk.specs.Story.{wrote, cut_to, synced, Story, noted, bytes_of, EachImage, IsDurable, after, LeavesOnly, Both, Torn, overwritten}
+use Rattle.dm_logdisk.proofs.Images.{sync_keeps, leaves_then, overwritten_end, overwritten_within}
+use Rattle.dm_redo.specs.Holding.{framed, IsEnd, Holds, Stands, IsBeforeOrAfter}
 use Rattle.dm_redo.proofs.Places.{framed_push}
 use Rattle.dm_redo.specs.Tidying.{IsCut, Shortens, Closes, Tidies}
 

@@ -1,5 +1,5 @@
 -- From what the disk notes to what an append does, whether the disk tells or not.
-use Rattle.std.proofs.Common.{◌≡◌, sym, ◌∙◌, ap, subst, ℕ, ◌+◌, Bool, true, List, [], ◌∷◌, ◌++◌}
+use Rattle.std.proofs.Common.{◌≡◌, subst, ℕ, ◌+◌, Bool, true, List, [], ◌∷◌, ◌++◌}
 use Rattle.std.specs.Prelude.{Option, option_map}
 use Rattle.dm_logdisk.specs.Story.{Change, wrote, synced, Story, noted, Both}
 use Rattle.dm_logdisk.proofs.Images.{Goes, goes_not, goes_on, both_goes}

@@ -1,12 +1,12 @@
 -- One frame more is found.
-use Rattle.std.proofs.Common.{◌≡◌, ◌≢◌, inl, inr, refl, sym, ◌∙◌, ap, subst, ℕ, zero, suc, ◌+◌, ◌-◌, ◌≤◌, ◌<◌, List, [], ◌∷◌, ◌++◌, length, take, drop, get_or, arith, append_assoc, length-append, length-drop, length-take-le, take-append-drop}
-use Rattle.std.proofs.lemmas.List.{drop_more, drop-drop, take_all, take_at, append-nil}
-use Rattle.dm_redo.specs.Holding.{framed, IsEnd, Holds, Stands, IsAt}
+use Rattle.std.proofs.Common.{◌≡◌, inl, inr, refl, sym, ◌∙◌, ap, subst, ℕ, ◌+◌, ◌≤◌, ◌<◌, List, [], ◌∷◌, ◌++◌, length, take, drop, get_or, arith, length-append, length-drop, length-take-le, take-append-drop}
+use Rattle.std.proofs.lemmas.List.{drop_more, drop-drop}
+use Rattle.dm_redo.specs.Holding.{framed, Holds, Stands}
 use Rattle.dm_redo.specs.Finding.{AreRecords, frames_of, Finds, IsBad, IsBadAt, IsGood, Has, KeepsRecords, Loads}
 use Rattle.dm_record.specs.declared.record.Record.{Record}
 use Rattle.dm_record.specs.Bytes.{frame_of, HasRanges, IsFrame}
-use Rattle.std.specs.Prelude.{Option, Some, None, Result, Ok, Err, IfSome}
-use Rattle.dm_logdisk.specs.Story.{Story, bytes_of, IsDurable, LeavesOnly, Both}
+use Rattle.std.specs.Prelude.{Option, Some, None, Result, Ok, IfSome}
+use Rattle.dm_logdisk.specs.Story.{Story, bytes_of, LeavesOnly, Both}
 use Rattle.dm_redo.specs.Tidying.{Tidies}
 use Rattle.dm_redo.proofs.Places.{framed_push}
 use Rattle.dm_redo.proofs.OneLog.{one_log_holds, either_end_holds}

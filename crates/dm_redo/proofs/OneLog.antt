@@ -1,5 +1,5 @@
 -- The records of a log are those of its bytes.
-use Rattle.std.proofs.Common.{◌≡◌, ◌⊎◌, inl, inr, refl, sym, ◌∙◌, ap, subst, ℕ, suc, ◌+◌, List, [], ◌∷◌, ◌++◌, length, take, drop, arith, append_assoc, get_or}
+use Rattle.std.proofs.Common.{◌≡◌, inl, inr, refl, sym, ◌∙◌, ap, subst, ℕ, List, [], ◌∷◌, ◌++◌, length, drop, append_assoc}
 use Rattle.std.proofs.lemmas.List.{take_at, drop_at}
 use Rattle.dm_record.specs.declared.record.Record.{Record}
 use Rattle.dm_record.specs.declared.record.Decoded.{Decoded}
@@ -9,7 +9,7 @@ use Rattle.dm_record.specs.Form.{walk}
 use Rattle.dm_record.specs.Grammar.{frame_form}
 use Rattle.dm_record.proofs.Telling.{again}
 use Rattle.dm_redo.specs.Holding.{framed, IsEnd}
-use Rattle.dm_redo.specs.Finding.{AreRecords, frames_of, Finds, IsBad, Has, Halts, IsOneLog, IsEitherEnd}
+use Rattle.dm_redo.specs.Finding.{AreRecords, frames_of, Has, Halts, IsOneLog, IsEitherEnd}
 use Rattle.dm_redo.specs.Comparing.{AreFrames}
 
 rec_in : Record → Decoded → Record

@@ -1,5 +1,5 @@
 -- Reading a whole file in pieces.
-use Rattle.std.proofs.Common.{◌≡◌, refl, sym, ◌∙◌, ap, subst, ℕ, zero, suc, ◌+◌, ◌-◌, ◌≤◌, ◌<◌, List, [], ◌∷◌, ◌++◌, length, take, drop, min, arith, length-append, length-drop}
+use Rattle.std.proofs.Common.{◌≡◌, refl, sym, ◌∙◌, ap, ℕ, ◌+◌, ◌-◌, ◌≤◌, ◌<◌, List, ◌++◌, length, take, drop, min, arith, length-drop}
 use Rattle.std.proofs.lemmas.List.{take_all, same_lists, places}
 use Rattle.std.specs.Prelude.{Option, Some, None, IfSome}
 use Rattle.dm_logdisk.specs.Story.{Story, bytes_of}

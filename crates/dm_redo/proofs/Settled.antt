@@ -1,11 +1,11 @@
 -- What a cut and a sync leave of a file with bytes pending.
-use Rattle.std.proofs.Common.{◌≡◌, ◌≢◌, ◌⊎◌, inl, inr, refl, sym, ◌∙◌, ap, subst, ℕ, zero, suc, ◌+◌, ◌-◌, ◌≤◌, ◌<◌, Bool, true, false, List, [], ◌∷◌, ◌++◌, length, take, drop, arith, length-append}
+use Rattle.std.proofs.Common.{◌≡◌, inl, inr, refl, sym, ◌∙◌, ap, subst, ℕ, zero, suc, ◌+◌, ◌-◌, ◌≤◌, Bool, true, false, List, [], ◌∷◌, ◌++◌, length, take, arith}
 use Rattle.std.specs.Prelude.{Option, Some, None, option_map, Result, Ok, Err, IfSome, OnOk}
 use Rattle.dm_event.specs.declared.step.Found.{Found}
 use Rattle.dm_event.specs.declared.step.Found.TheVariants as found
-use Rattle.dm_logdisk.specs.Story.{Change, wrote, cut_to, synced, Story, noted, bytes_of, IsImage, EachImage, IsDurable, after, EachMoment, LeavesOnly, Both}
-use Rattle.dm_logdisk.proofs.Images.{sync_keeps, read_is_image, leaves_then, leaves_weaker}
-use Rattle.dm_redo.specs.Holding.{framed, IsEnd, Holds, Stands, IsAt, IsBeforeOrAfter}
+use Rattle.dm_logdisk.specs.Story.{cut_to, synced, Story, noted, bytes_of, EachImage, IsDurable, after, LeavesOnly, Both}
+use Rattle.dm_logdisk.proofs.Images.{sync_keeps, leaves_then, leaves_weaker}
+use Rattle.dm_redo.specs.Holding.{framed, IsEnd, Holds, IsAt}
 use Rattle.dm_redo.specs.Tidying.{Closes}
 use Rattle.dm_redo.specs.Comparing.{stood}
 use Rattle.dm_redo.specs.Settling.{MayHold, Cuts, Settles, Firms}

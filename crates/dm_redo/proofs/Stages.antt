@@ -1,7 +1,7 @@
 -- The four changes of an append, one after the other.
-use Rattle.std.proofs.Common.{◌≡◌, ◌⊎◌, inl, inr, refl, sym, ◌∙◌, ap, subst, ℕ, ◌+◌, Bool, true, false, List, [], ◌∷◌, ◌++◌, length, take, drop, get_or, arith, append_assoc, length-append}
-use Rattle.dm_logdisk.specs.Story.{Change, wrote, synced, Story, noted, overwritten, bytes_of, IsImage, EachImage, IsDurable, after, EachMoment, LeavesOnly, Torn, changed}
-use Rattle.dm_logdisk.proofs.Images.{sync_keeps, read_is_image}
+use Rattle.std.proofs.Common.{◌≡◌, inl, refl, sym, ◌∙◌, ap, subst, ℕ, ◌+◌, Bool, true, false, List, [], ◌∷◌, ◌++◌, length, drop, get_or, arith, length-append}
+use Rattle.dm_logdisk.specs.Story.{Change, wrote, synced, Story, noted, overwritten, bytes_of, IsImage, EachImage, after, EachMoment, Torn}
+use Rattle.dm_logdisk.proofs.Images.{sync_keeps}
 use Rattle.dm_redo.specs.Holding.{framed, Holds, IsAt, IsFirm, IsBeforeOrAfter, HasFrame}
 use Rattle.dm_redo.specs.Appending.{Appends}
 use Rattle.dm_redo.specs.declared.appending.Appended.TheVariants.{Done, Undone, Doubt}

@@ -1,5 +1,5 @@
 -- What an append does.
-use Rattle.std.specs.Prelude.{◌≡◌, ℕ, ◌+◌, List, [], ◌∷◌, ◌++◌, length}
+use Rattle.std.specs.Prelude.{ℕ, ◌+◌, List, [], ◌∷◌, ◌++◌, length}
 use Rattle.dm_redo.specs.declared.appending.Appended.{Appended}
 use Rattle.dm_redo.specs.declared.appending.Appended.TheVariants.{Done, Undone, Doubt}
 use Rattle.dm_logdisk.specs.Story.{Story, bytes_of, EachImage, IsDurable, LeavesOnly}

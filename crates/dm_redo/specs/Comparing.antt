@@ -1,5 +1,5 @@
 -- A file against what was written.
-use Rattle.std.specs.Prelude.{◌≡◌, ℕ, zero, suc, Bool, true, false, ◌&&◌, ◌==◌, if◌then◌else◌, List, [], ◌∷◌, ◌++◌, length, drop, slice_get, Option, Some, None, Result, Ok, Err, IfSome}
+use Rattle.std.specs.Prelude.{◌≡◌, ℕ, suc, Bool, false, ◌&&◌, ◌==◌, if◌then◌else◌, List, [], ◌∷◌, ◌++◌, length, drop, slice_get, Option, Some, None, Result, Ok, Err, IfSome}
 use Rattle.dm_event.specs.declared.step.Found.{Found}
 use Rattle.dm_event.specs.declared.step.Found.TheVariants as found
 use Rattle.dm_logdisk.specs.Story.{Story, bytes_of}

@@ -1,5 +1,5 @@
 -- What tidying the end of a log does.
-use Rattle.std.specs.Prelude.{◌≡◌, ℕ, ◌+◌, ◌≤◌, List, ◌++◌, length, take, Result, OnOk}
+use Rattle.std.specs.Prelude.{◌≡◌, ℕ, ◌+◌, ◌≤◌, List, length, take, Result, OnOk}
 use Rattle.dm_logdisk.specs.Story.{Story, bytes_of, IsDurable, LeavesOnly}
 use Rattle.dm_redo.specs.Holding.{Holds, Stands, IsAt}
 

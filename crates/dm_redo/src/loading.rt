@@ -8,7 +8,7 @@ ghost use Rattle.dm_redo.specs.Reading.{ReadsAll};
 ghost use Rattle.dm_redo.specs.Holding.{IsAt};
 ghost use Rattle.dm_redo.specs.Comparing.{Shows, stood};
 ghost use Rattle.dm_redo.specs.Settling.{Keeps, Stood};
-ghost use Rattle.dm_redo.specs.Finding.{Has, IsBadAt, Loads, KeepsRecords, frames_of, IsOneLog, IsEitherEnd};
+ghost use Rattle.dm_redo.specs.Finding.{AreRecords, Has, IsBadAt, Loads, KeepsRecords, frames_of, IsOneLog, IsEitherEnd};
 
 use crate::comparing::{AgainstFault, compare, is_open};
 use crate::tidying::{firm, tidy};
@@ -103,6 +103,7 @@ pub(crate) fn read_log<D: LogDisk>(
     alloc: Global,
 ) -> Result<(Vec<Record>, u64), LoadFault>
     ensures loads { IfOk result (λ r. Both (Loads r.1 r.0.items) (D.story disk.old) (D.story disk.new)) }
+    ensures ranges { IfOk result (λ r. AreRecords r.0.items) }
     ensures idle { IfOk result (λ r. IfSome (D.story disk.old) (λ s. IsAt (frames_of r.0.items) r.1 s → D.story disk.new ≡ D.story disk.old)) }
     ensures bad { IfErr result (λ e. (place : ℕ) → e ≡ LoadFault.Bad place → IfSome (D.story disk.old) (λ s. IsBadAt (bytes_of s) place)) }
     ensures same { IfErr result (λ e. e ≢ LoadFault.Log → D.story disk.new ≡ D.story disk.old) }
@@ -144,6 +145,7 @@ pub(crate) fn against<D: LogDisk>(
     ensures stands { IfOk result (λ r. Both (Stood written.now (option_map (λ f. f.now) pending.entry) r.0 r.2) (D.story disk.old) (D.story disk.new)) }
     ensures records { IfOk result (λ r. frames_of r.1.items ≡ stood r.0 written.now (option_map (λ f. f.now) pending.entry)) }
     ensures count { D.faults disk.old ≤ D.faults disk.new }
+    ensures ranges { IfOk result (λ r. AreRecords r.1.items) }
     ensures clean { IfOk result (λ r. (r.0 ≡ Found.Clean → IsNone pending.entry) × (IsNone pending.entry → r.0 ≡ Found.Clean)) }
     ensures apart { IfErr result (λ e. (place : ℕ) (read written : Option ℕ) → e ≡ AgainstFault.Differs place read written → read ≢ written) }
     ensures cause { IfErr result (λ e. e ≡ AgainstFault.Log → Rose (D.faults disk.old) (D.faults disk.new)) }

@@ -5,7 +5,7 @@ ghost use Rattle.dm_disk.specs.Faults.{Rose};
 ghost use Rattle.dm_logdisk.specs.Story.{Both, bytes_of};
 ghost use Rattle.dm_redo.specs.Holding.{IsAt};
 ghost use Rattle.dm_redo.specs.Appending.{Appends};
-ghost use Rattle.dm_redo.specs.Finding.{Loads, KeepsRecords, IsBadAt, frames_of};
+ghost use Rattle.dm_redo.specs.Finding.{AreRecords, Loads, KeepsRecords, IsBadAt, frames_of};
 ghost use Rattle.dm_redo.specs.Comparing.{Shows, stood};
 ghost use Rattle.dm_redo.specs.Settling.{Keeps, Stood};
 
@@ -42,6 +42,7 @@ impl<D: LogDisk> RedoLog<D> {
     /// Reads the log, and leaves one closed gate byte behind its last record.
     pub fn load(alloc: Global, disk: D) -> Result<RedoLog<D>, (D, LoadFault)>
         ensures loads { IfOk result (λ log. Both (Loads log.gate log.records) (D.story disk) (D.story log.disk)) }
+        ensures ranges { IfOk result (λ log. AreRecords log.records) }
         ensures idle { IfOk result (λ log. IfSome (D.story disk) (λ s. IsAt (frames_of log.records) log.gate s → D.story log.disk ≡ D.story disk)) }
         ensures live { IfOk result (λ log. IsTrue log.live) }
         ensures bad { IfErr result (λ e. (place : ℕ) → e.1 ≡ LoadFault.Bad place → IfSome (D.story disk) (λ s. IsBadAt (bytes_of s) place)) }
@@ -145,6 +146,7 @@ impl<D: LogDisk> RedoLog<D> {
         ensures live { IfOk result (λ _. IsTrue self.new.live) }
         ensures dead { IfErr result (λ _. IsTrue self.new.live → ⊥) }
         ensures count { D.faults self.old.disk ≤ D.faults self.new.disk }
+        ensures ranges { IfOk result (λ _. AreRecords self.new.records) }
         ensures clean { IfOk result (λ found. found ≡ Found.Clean → IsNone pending.entry) }
         ensures pending { IfOk result (λ found. IsNone pending.entry → found ≡ Found.Clean) }
         ensures apart { IfErr result (λ e. (place : ℕ) (read written : Option ℕ) → e ≡ AgainstFault.Differs place read written → read ≢ written) }

@@ -1,8 +1,5 @@
-use Rattle.std.proofs.Common.{◌≡◌, ◌∙◌, sym, ap, ℕ, List, length, ◌++◌, ◌∷◌}
-use Rattle.std.specs.Prelude.{Option, Some, option_map}
-use Rattle.dm_event.specs.declared.step.Found.{Found}
-use Rattle.dm_redo.specs.Holding.{framed}
-use Rattle.dm_redo.specs.Comparing.{stood}
+use Rattle.std.proofs.Common.{◌∙◌, ap, ℕ, List, ◌++◌, ◌∷◌}
+use Rattle.std.specs.Prelude.{option_map}
 use Rattle.dm_redo.proofs.Againsts.{kept_gate, kept_frames, ok_on}
 use Rattle.dm_redo.proofs.comparing.compare.Goals as goal
 

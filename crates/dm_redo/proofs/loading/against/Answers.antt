@@ -1,5 +1,5 @@
-use Rattle.std.proofs.Common.{◌≡◌, sym, ◌∙◌, ap, subst, List, ℕ, drop}
-use Rattle.std.specs.Prelude.{Option, Ok, Err, option_map}
+use Rattle.std.proofs.Common.{sym, ◌∙◌, ap, subst, List, ℕ}
+use Rattle.std.specs.Prelude.{Option, Ok, Err}
 use Rattle.dm_logdisk.specs.Story.{Story, Both}
 use Rattle.dm_logdisk.specs.declared.disk.Failed.{Failed}
 use Rattle.dm_redo.specs.Holding.{framed}

@@ -1,4 +1,4 @@
-use Rattle.std.proofs.Common.{◌≡◌, sym, ◌∙◌, subst, arith, ℕ, true, List, ◌+◌, drop}
+use Rattle.std.proofs.Common.{◌≡◌, sym, ◌∙◌, subst, arith, true, List, ◌+◌, drop}
 use Rattle.dm_record.specs.Judging.{Tells}
 use Rattle.std.proofs.lemmas.List.{take_rest}
 use Rattle.dm_record.specs.declared.record.Record.{Record}

@@ -1,4 +1,4 @@
-use Rattle.std.proofs.Common.{◌≡◌, sym, ◌∙◌, subst, List, ℕ}
+use Rattle.std.proofs.Common.{◌∙◌, subst, List, ℕ}
 use Rattle.std.specs.Prelude.{Option, Ok, Err}
 use Rattle.dm_logdisk.specs.Story.{Story, Both}
 use Rattle.dm_logdisk.specs.declared.disk.Failed.{Failed}
