@@ -1,8 +1,8 @@
 //! A history that command lines drive.
 
-ghost use Rattle.std.specs.Prelude.{◌≡◌, ◌<◌, ◌^◌, ◌-◌, All, IfOk, OnOk, length};
+ghost use Rattle.std.specs.Prelude.{◌≡◌, ◌<◌, ◌+◌, ◌^◌, ◌-◌, All, IfOk, OnOk, length};
 ghost use Rattle.dm_lines.specs.Ranges.{Fits};
-ghost use Rattle.dm_schedule.specs.Drive.{by_line, answer_of, drive_of, answers_of};
+ghost use Rattle.dm_schedule.specs.Drive.{by_line, answer_of, driven, drive_of, answers_of};
 ghost use Rattle.dm_text.specs.Text.{Appends};
 
 use crate::answer::{Answer, put_answer, put_refused};
@@ -90,6 +90,25 @@ fn answer(
     }
 }
 
+/// Does the same for each line in turn.
+fn answer_all(
+    driver: &mut Driver,
+    alloc: Global,
+    lines: &[Line],
+    out: &mut Vec<u8>,
+) -> Result<(), NoMemory>
+    requires fit { All (λ line. Fits driver.old.layout line) lines.now }
+    requires few { length driver.old.history + length lines.now < 2 ^ 32 - 1 }
+    ensures does { OnOk result (driver.new ≡ (driven driver.old lines.now).0) }
+    ensures layout { OnOk result (driver.new.layout ≡ driver.old.layout) }
+    ensures answers { Appends result out.old.items out.new.items (driven driver.old lines.now).1 }
+{
+    for line in lines {
+        answer(driver, alloc, line, out)?;
+    }
+    Ok(())
+}
+
 /// Drives a history by the command lines of a file, and appends a line for each that answers it. The
 /// lines fit the schema, and there are fewer than 2^32 - 1, as in every file up to that length.
 pub fn drive(alloc: Global, schedule: &Schedule, out: &mut Vec<u8>) -> Result<Book, NoMemory>
@@ -100,8 +119,6 @@ pub fn drive(alloc: Global, schedule: &Schedule, out: &mut Vec<u8>) -> Result<Bo
     ensures answers { Appends result out.old.items out.new.items (answers_of schedule.now.schema schedule.now.lines.items) }
 {
     let mut driver = Driver::new(alloc, &schedule.schema)?;
-    for line in &schedule.lines {
-        answer(&mut driver, alloc, line, out)?;
-    }
+    answer_all(&mut driver, alloc, &schedule.lines, out)?;
     Ok(driver.into_book())
 }

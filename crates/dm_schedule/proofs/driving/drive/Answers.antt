@@ -1,52 +1,19 @@
-use Rattle.std.proofs.Common.{◌≡◌, arith, ◌∙◌, ap, sym, subst, ◌++◌, ℕ, List, length}
-use Rattle.std.proofs.lemmas.List.{append-nil}
-use Rattle.std.proofs.lemmas.Result.{err_from_is_err_and}
+use Rattle.std.proofs.Common.{◌∙◌, ap, ◌++◌, List}
+use Rattle.dm_lines.specs.declared.line.Line.{Line}
 use Rattle.dm_schedule.specs.Drive.{Drive, driven, start}
-use Rattle.dm_schedule.proofs.Begins.{begins_further, begins_more, begins_same}
-use Rattle.dm_schedule.proofs.Keeps.{Keeps, line_keeps}
-use Rattle.dm_schedule.proofs.Lines.{history_more, answers_more, driven_end}
 use Rattle.dm_schedule.proofs.driving.drive.Goals as goal
 
-pub returns-in_err-answer-clause-answers : goal.returns-in_err-answer-clause-answers
-returns-in_err-answer-clause-answers c =
-    let error = err_from_is_err_and c.from_residual-in_err-answer.result c.from_residual-in_err-answer.ensures.1 in
-    rw (error.1) (begins_further _ _ _ c.in_err-answer.ensures.answers c.loop-line.invariant.begins)
-
-pub loop-line-init : goal.loop-line-init
-loop-line-init c =
-    let e : c.in_ok-driver.driver ≡ start c.args.schedule.now.schema = c.in_ok-driver.ensures in
-    let lines = c.args.schedule.now.lines.items in
-    let none = ap (λ (d : Drive). length d.history) e in
-    record {
-      layout = ap (λ (d : Drive). d.layout) e;
-      steps = omega (arith, none);
-      history = ap (λ (d : Drive). (driven d lines).0) e;
-      answers = ap (λ (d : Drive). c.args.out.now.items ++ (driven d lines).1) e;
-      begins = begins_same c.args.out.now.items;
-    }
-
-pub loop-line-preserved : goal.loop-line-preserved
-loop-line-preserved c =
-    let before = c.loop-line.invariant in
-    let lt = rw c.deref-line-items.ensures.value at c.loop-line-test.true in
-    let at = rw c.deref-line-items.ensures.value at c.line-item.is in
-    let keeps = subst (λ (d : Drive). Keeps c.loop-line.driver d) (sym c.in_ok-answer.ensures.does) (line_keeps c.loop-line.driver c.line-item.result) in
-    record {
-      layout = keeps.layout ∙ before.layout;
-      steps = omega (arith, keeps.steps, before.steps);
-      history = history_more c.loop-line.driver c.answer.new.driver _ _ c.line-item.result lt at c.in_ok-answer.ensures.does _ before.history;
-      answers = answers_more c.loop-line.driver c.answer.new.driver _ _ c.line-item.result lt at c.in_ok-answer.ensures.does c.loop-line.out.items _ _
-          c.in_ok-answer.ensures.answers before.answers;
-      begins = begins_more _ _ _ _ c.in_ok-answer.ensures.answers before.begins;
-    }
+pub returns-clause-layout : goal.returns-clause-layout
+returns-clause-layout c = c.into_book.ensures.layout ∙ c.in_ok-answer_all.ensures.layout ∙ ap (λ (d : Drive). d.layout) c.in_ok-driver.ensures
 
 pub returns-clause-history : goal.returns-clause-history
 returns-clause-history c =
-    let end = driven_end c.loop-line.driver _ c.loop-line.line-index (rw c.deref-line-items.ensures.value at c.loop-line-test.false) in
-    c.into_book.ensures.history
-    ∙ sym (ap (λ (r : Drive × List ℕ). r.0.history) end) ∙ ap (λ (d : Drive). d.history) c.loop-line.invariant.history
+    c.into_book.ensures.history ∙ ap (λ (d : Drive). d.history) c.in_ok-answer_all.ensures.does
+    ∙ ap (λ (d : Drive). (driven d c.deref.result.now).0.history) c.in_ok-driver.ensures
+    ∙ ap (λ (lines : List Line). (driven (start c.args.schedule.now.schema) lines).0.history) c.deref.ensures.value
 
 pub returns-clause-answers : goal.returns-clause-answers
 returns-clause-answers c =
-    let end = driven_end c.loop-line.driver _ c.loop-line.line-index (rw c.deref-line-items.ensures.value at c.loop-line-test.false) in
-    sym (append-nil c.loop-line.out.items) ∙ sym (ap (λ (r : Drive × List ℕ). c.loop-line.out.items ++ r.1) end) ∙ c.loop-line.invariant.answers
+    c.in_ok-answer_all.ensures.answers
+    ∙ ap (λ (d : Drive). c.args.out.now.items ++ (driven d c.deref.result.now).1) c.in_ok-driver.ensures
+    ∙ ap (λ (lines : List Line). c.args.out.now.items ++ (driven (start c.args.schedule.now.schema) lines).1) c.deref.ensures.value
