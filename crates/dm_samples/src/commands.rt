@@ -13,6 +13,16 @@ const ONE_COMMIT_OUT: &[u8] =
 
 const HEADER: &[u8] = b"sites 2 parts 2 width 10 masters 1 2\n";
 
+/// How a command ended.
+#[derive(Drop)]
+struct Ended {
+    /// The text of its status.
+    text: Vec<u8>,
+    written: Vec<u8>,
+    /// How many steps its history has.
+    steps: usize,
+}
+
 fn words(alloc: Global, texts: &[&str]) -> Result<Vec<String>, Fail> {
     let mut words = Vec::new(alloc);
     for text in texts {
@@ -21,102 +31,108 @@ fn words(alloc: Global, texts: &[&str]) -> Result<Vec<String>, Fail> {
     Ok(words)
 }
 
-fn source(alloc: Global, fails: &[u64]) -> Result<MemSource, Fail> {
-    let mut files = Vec::new(alloc);
-    files.push((
-        String::from_str(alloc, "one")?,
-        Vec::from_slice(alloc, ONE_COMMIT)?,
-    ))?;
-    files.push((
-        String::from_str(alloc, "header")?,
-        Vec::from_slice(alloc, HEADER)?,
-    ))?;
-    files.push((
-        String::from_str(alloc, "bad")?,
-        Vec::from_slice(alloc, b"sites 9")?,
-    ))?;
-    files.push((
-        String::from_str(alloc, "long")?,
-        vec![in alloc; 0; 16777217]?,
-    ))?;
+/// A source of one file, of which these fetches fail.
+fn source(alloc: Global, name: &str, bytes: Vec<u8>, fails: &[u64]) -> Result<MemSource, Fail> {
+    let files = vec![in alloc; (String::from_str(alloc, name)?, bytes)]?;
     Ok(MemSource::new(files, Vec::from_slice(alloc, fails)?))
+}
+
+/// The status, and how many steps the history has.
+fn done(
+    alloc: Global,
+    words: &[String],
+    source: &mut MemSource,
+    sink: &mut MemSink,
+) -> (Status, usize) {
+    let Ran::Did { status, history } = quiet(alloc, words, source, sink);
+    (status, history.len())
+}
+
+fn finish(
+    alloc: Global,
+    words: &[String],
+    source: &mut MemSource,
+    room: u64,
+) -> Result<Ended, Fail> {
+    let mut sink = MemSink::new(alloc, room)?;
+    let (status, steps) = done(alloc, words, source, &mut sink);
+    let text = status_text(alloc, &status);
+    let written = Vec::from_slice(alloc, sink.written());
+    Ok(Ended {
+        text: text?,
+        written: written?,
+        steps,
+    })
+}
+
+/// How the command of these words ends where there is one file, and a sink that takes so many bytes.
+fn run(
+    alloc: Global,
+    texts: &[&str],
+    name: &str,
+    bytes: Vec<u8>,
+    fails: &[u64],
+    room: u64,
+) -> Result<Ended, Fail> {
+    let words = words(alloc, texts)?;
+    let mut source = source(alloc, name, bytes, fails)?;
+    finish(alloc, &words, &mut source, room)
 }
 
 #[test]
 fn a_schedule_is_driven_and_reported(rt: HostRuntime) -> Result<(), Fail> {
     let alloc = rt.alloc();
-    let mut source = source(alloc, &[])?;
-    let mut sink = MemSink::new(alloc, 1000)?;
-    let Ran::Did { status, history } = quiet(
-        alloc,
-        &words(alloc, &["step", "one"])?,
-        &mut source,
-        &mut sink,
+    let bytes = Vec::from_slice(alloc, ONE_COMMIT)?;
+    let ended = run(alloc, &["step", "one"], "one", bytes, &[], 1000)?;
+    assert_eq!(rt; ended.text.as_slice(), b"done".as_slice());
+    assert_eq!(rt; ended.steps, 4);
+    assert_eq!(rt; ended.written.as_slice(), ONE_COMMIT_OUT);
+    Ok(())
+}
+
+#[test]
+fn a_file_is_too_long(rt: HostRuntime) -> Result<(), Fail> {
+    let alloc = rt.alloc();
+    let bytes = vec![in alloc; 0; 16777217]?;
+    let ended = run(alloc, &["step", "long"], "long", bytes, &[], 1000)?;
+    assert_eq!(rt;
+        ended.text.as_slice(),
+        b"long: longer than 16777216 bytes".as_slice()
     );
-    assert!(rt; matches!(status, Status::Done));
-    assert_eq!(rt; history.len(), 4);
-    assert_eq!(rt; sink.written(), ONE_COMMIT_OUT);
+    assert_eq!(rt; ended.written.len(), 0);
     Ok(())
 }
 
 #[test]
 fn commands_end_for_their_reasons(rt: HostRuntime) -> Result<(), Fail> {
     let alloc = rt.alloc();
-    for (texts, fails, room, text, written) in [
+    // the words, the bytes of the file `one`, the fetches that fail, the room in the sink; the status, and what is written
+    let rows: [(&[&str], &[u8], &[u64], u64, &str, &[u8]); 5] = [
+        (&["fly"], HEADER, &[], 1000, "bad words", b""),
+        (&["step", "none"], HEADER, &[], 1000, "none: absent", b""),
         (
-            ["fly"].as_slice(),
-            [].as_slice(),
-            1000,
-            "bad words",
-            b"".as_slice(),
-        ),
-        (
-            ["step", "none"].as_slice(),
-            [].as_slice(),
-            1000,
-            "none: absent",
-            b"".as_slice(),
-        ),
-        (
-            ["step", "long"].as_slice(),
-            [].as_slice(),
-            1000,
-            "long: longer than 16777216 bytes",
-            b"".as_slice(),
-        ),
-        (
-            ["step", "bad"].as_slice(),
-            [].as_slice(),
+            &["step", "one"],
+            b"sites 9",
+            &[],
             1000,
             "line 1: count",
-            b"".as_slice(),
+            b"",
         ),
+        (&["step", "one"], HEADER, &[1], 1000, "read fault", b""),
         (
-            ["step", "one"].as_slice(),
-            [1].as_slice(),
-            1000,
-            "read fault",
-            b"".as_slice(),
-        ),
-        (
-            ["step", "header"].as_slice(),
-            [].as_slice(),
+            &["step", "one"],
+            HEADER,
+            &[],
             10,
             "write fault",
-            b"moves 0\nsi".as_slice(),
+            b"moves 0\nsi",
         ),
-    ] {
-        let mut source = source(alloc, fails)?;
-        let mut sink = MemSink::new(alloc, room)?;
-        let Ran::Did { status, history } = quiet(
-            alloc,
-            &words(alloc, texts)?,
-            &mut source,
-            &mut sink,
-        );
-        drop(history);
-        assert_eq!(rt; status_text(alloc, &status)?.as_slice(), text.as_bytes());
-        assert_eq!(rt; sink.written(), written, "{text}");
+    ];
+    for (texts, bytes, fails, room, text, written) in rows {
+        let bytes = Vec::from_slice(alloc, bytes)?;
+        let ended = run(alloc, texts, "one", bytes, fails, room)?;
+        assert_eq!(rt; ended.text.as_slice(), text.as_bytes());
+        assert_eq!(rt; ended.written.as_slice(), written, "{text}");
     }
     Ok(())
 }

@@ -1,8 +1,8 @@
 //! The line of each kind of step.
 
 use dm_event::{
-    Cause, Choice, Entry, Found, Keys, Op, Ops, Pair, Pairs, Pending, Said, Step, TxnId, Vector,
-    Want,
+    Cause, Choice, Entry, Found, Keys, NoMemory, Op, Ops, Pair, Pairs, Pending, Said, Step, TxnId,
+    Vector, Want,
 };
 use dm_history::{print_step, put_step};
 use std::alloc::Global;
@@ -117,12 +117,16 @@ restart 2 [0 0] kept
 restart 2 [0 0] lost
 ";
 
+fn put(alloc: Global, out: &mut Vec<u8>, step: Step) -> Result<(), NoMemory> {
+    put_step(alloc, out, &step)
+}
+
 #[test]
 fn steps_without_lists(rt: HostRuntime) -> Result<(), Fail> {
     let alloc = rt.alloc();
     let mut out = Vec::new(alloc);
     for number in 0..15 {
-        put_step(alloc, &mut out, &plain(number))?;
+        put(alloc, &mut out, plain(number))?;
     }
     assert_eq!(rt; out.as_slice(), PLAIN.as_bytes());
     Ok(())
@@ -168,15 +172,12 @@ fn replies(rt: HostRuntime) -> Result<(), Fail> {
     let mut out = Vec::new(alloc);
     for number in 0..9 {
         let said = outcome(number);
-        put_step(
-            alloc,
-            &mut out,
-            &Step::Reply {
-                session: 1,
-                number: 20,
-                said,
-            },
-        )?;
+        let reply = Step::Reply {
+            session: 1,
+            number: 20,
+            said,
+        };
+        put(alloc, &mut out, reply)?;
     }
     assert_eq!(rt; out.as_slice(), REPLIES.as_bytes());
     Ok(())
@@ -242,7 +243,7 @@ fn steps_with_lists(rt: HostRuntime) -> Result<(), Fail> {
     let alloc = rt.alloc();
     let mut out = Vec::new(alloc);
     for number in 0..6 {
-        put_step(alloc, &mut out, &with_list(alloc, number)?)?;
+        put(alloc, &mut out, with_list(alloc, number)?)?;
     }
     assert_eq!(rt; out.as_slice(), WITH_LISTS.as_bytes());
     Ok(())
