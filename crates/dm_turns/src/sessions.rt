@@ -45,6 +45,17 @@ fn push_if_room(turn: &mut Turn<'_, Book>, step: Step)
     }
 }
 
+/// Pushes the step, where it is allowed and there is room for it.
+fn push_if_allowed(turn: &mut Turn<'_, Book>, step: Step)
+    requires actors { Covers actors turn.old.actors step }
+    ensures table { turn.new.table ≡ turn.old.table }
+    ensures actors { turn.new.actors ≡ turn.old.actors }
+{
+    if turn.kept().enabled(&step).is_ok() {
+        push_if_room(turn, step);
+    }
+}
+
 /// Routes the item, where that is allowed.
 fn route_item<R: Wait>(
     rt: &R,
@@ -61,9 +72,7 @@ fn route_item<R: Wait>(
 {
     let mut turn = chron.enter(rt, pass);
     if let Ok(step) = route(alloc, turn.kept(), session, number) {
-        if turn.kept().enabled(&step).is_ok() {
-            push_if_room(&mut turn, step);
-        }
+        push_if_allowed(&mut turn, step);
     }
     turn.leave(pass);
 }
@@ -82,9 +91,7 @@ fn answer_item<R: Wait>(rt: &R, chron: &Chron, pass: &mut CorePass, session: u32
         said,
     };
     let mut turn = chron.enter(rt, pass);
-    if turn.kept().enabled(&step).is_ok() {
-        push_if_room(&mut turn, step);
-    }
+    push_if_allowed(&mut turn, step);
     turn.leave(pass);
 }
 
