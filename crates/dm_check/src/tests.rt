@@ -1,7 +1,7 @@
 //! A hand-over step by step, and lists that differ from it.
 
 use crate::{Checked, check};
-use dm_event::{Choice, Said, Schema, Step, TxnId, Vector, Want, Weights, Why};
+use dm_event::{Choice, NoMemory, Said, Schema, Step, TxnId, Vector, Want, Weights, Why};
 use std::alloc::Global;
 use std::test::Fail;
 
@@ -82,10 +82,25 @@ fn told(checked: &Checked) -> (Option<(u64, Why)>, usize) {
     }
 }
 
+fn steps(alloc: Global, acts: &[Act]) -> Result<Vec<Step>, NoMemory> {
+    let mut steps = Vec::new(alloc);
+    for act in acts {
+        steps.push(step(*act))?;
+    }
+    Ok(steps)
+}
+
+/// What is told of the list of these steps.
+fn judged(alloc: Global, acts: &[Act]) -> Result<(Option<(u64, Why)>, usize), Fail> {
+    let steps = steps(alloc, acts)?;
+    let schema = schema(alloc)?;
+    let checked = check(alloc, &schema, steps)?;
+    Ok(told(&checked))
+}
+
 #[test]
 fn lists_are_judged(rt: HostRuntime) -> Result<(), Fail> {
     let alloc = rt.alloc();
-    let schema = schema(alloc)?;
     let place = Act::Place;
     let (ask, release, grant, settle, say) = (
         Act::Ask,
@@ -123,12 +138,7 @@ fn lists_are_judged(rt: HostRuntime) -> Result<(), Fail> {
             1,
         ),
     ] {
-        let mut steps = Vec::new(alloc);
-        for act in acts {
-            steps.push(step(*act))?;
-        }
-        let checked = check(alloc, &schema, steps)?;
-        assert_eq!(rt; told(&checked), (refused, legal), "after {acts:?}");
+        assert_eq!(rt; judged(alloc, acts)?, (refused, legal), "after {acts:?}");
     }
     Ok(())
 }
