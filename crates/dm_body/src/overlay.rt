@@ -106,6 +106,20 @@ impl Overlay {
         &self.ops
     }
 
+    /// What the ops have read so far.
+    pub fn reads(&self) -> &[Pair]
+        ensures { result.now ≡ self.now.ran.reads }
+    {
+        &self.reads
+    }
+
+    /// What the ops have written so far, the last value of each key.
+    pub fn writes(&self) -> &[Pair]
+        ensures { result.now ≡ self.now.ran.writes }
+    {
+        &self.writes
+    }
+
     /// A copy of what the ops have read and written so far.
     pub fn to_ran(&self) -> Result<Ran, NoMemory>
         ensures { IfOk result (λ ran. ran ≡ record { ops = self.now.ops; reads = self.now.ran.reads; writes = self.now.ran.writes }) }

@@ -16,7 +16,7 @@ use Rattle.dm_model.proofs.ListFacts.{found_holds}
 use Rattle.dm_model.specs.Allowed.{common_key}
 use Rattle.dm_model.specs.Tests.{is_among}
 
-common_from : (keys : List ℕ) (claim : Claim) (key : ℕ) → common_key keys claim.keys ≡ Some key → IsCommon keys claim key
+pub common_from : (keys : List ℕ) (claim : Claim) (key : ℕ) → common_key keys claim.keys ≡ Some key → IsCommon keys claim key
 common_from keys claim key e = (found_among (is_among claim.keys) key keys e, found_holds (is_among claim.keys) keys key e)
 
 pub got_apart : (keys : List ℕ) (claims : List Claim) → answer keys claims ≡ Got → (claim : Claim) → Contains claims claim → (key : ℕ) → IsCommon keys claim key

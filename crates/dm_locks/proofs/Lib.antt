@@ -1,6 +1,7 @@
 pub mod Answers
 pub mod Counts
 pub mod Firsts
+pub mod Line
 pub mod Lines
 pub mod Members
 pub mod Merging

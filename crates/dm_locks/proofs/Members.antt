@@ -1,12 +1,11 @@
 -- What stands in a list, and in front of what.
-use Rattle.std.proofs.Common.{ℕ, zero, suc, ◌<◌, ◌≤◌, ◌≡◌, Bool, true, false, not, cond, List, [], ◌∷◌, ◌++◌, length, get_or, Some, None, refl, sym, ap}
+use Rattle.std.proofs.Common.{ℕ, zero, suc, ◌<◌, ◌≤◌, ◌≡◌, Bool, true, false, cond, List, [], ◌∷◌, ◌++◌, length, get_or, Some, None, refl, sym, ap}
 use Rattle.std.proofs.Common.{◌∙◌, subst, arith, inl, inr, ◌⊎◌}
-use Rattle.std.proofs.lemmas.Bool.{false≢true}
-use Rattle.std.specs.List.{AllByRecursion as Each, Contains}
+use Rattle.std.proofs.lemmas.Bool.{false≢true, cases_Bool}
+use Rattle.std.specs.List.{AllByRecursion as Each, Contains, filter}
 use Rattle.std.specs.Prelude.{find}
-use Rattle.dm_event.specs.Txns.{same_txn}
 use Rattle.dm_event.specs.declared.step.TxnId.{TxnId}
-use Rattle.dm_locks.specs.Claims.{before, claim_of, is_of, without}
+use Rattle.dm_locks.specs.Claims.{before, claim_of, is_of}
 use Rattle.dm_locks.specs.declared.claim.Claim.{Claim}
 use Rattle.dm_model.proofs.SameValues.{txn_own}
 use Rattle.dm_model.proofs.SameValues.{txn_same}
@@ -108,29 +107,61 @@ not_both_in_front x y (c ∷ cs) m n = by_tests (is_of y.txn c) (is_of x.txn c) 
     by_tests false false q r (inr m) (inl e) rest = false≢true (sym q ∙ ap (λ (z : Claim). is_of y.txn z) e ∙ txn_own y.txn)
     by_tests false false q r (inr m) (inr n) rest = rest m n
 
--- ---- without a transaction
+-- ---- what a test on transactions leaves
 
-without_step : (txn : TxnId) (claim : Claim) (claims : List Claim) (b : Bool) → is_of txn claim ≡ b → claim_of txn (without txn claims) ≡ None
-    → claim_of txn (cond (not b) (claim ∷ without txn claims) (without txn claims)) ≡ None
-without_step txn claim claims true e rest = rest
-without_step txn claim claims false e rest = ap (λ (b : Bool). cond b (Some claim) (claim_of txn (without txn claims))) e ∙ rest
-
-pub gone : (txn : TxnId) (claims : List Claim) → claim_of txn (without txn claims) ≡ None
-gone txn [] = refl
-gone txn (claim ∷ claims) = without_step txn claim claims (is_of txn claim) refl (gone txn claims)
-
--- what is in front of another stays in front of it, or goes
-pub before_without : (R : Claim → Type 0) (a t : TxnId) → same_txn a t ≡ false → (claims : List Claim) → Each R (before a claims)
-    → Each R (before a (without t claims))
-before_without R a t n [] h = tt
-before_without R a t n (c ∷ cs) h = by_tests (is_of a c) (is_of t c) refl refl h (before_without R a t n cs)
+pub gone : (r : TxnId → Bool) (a : TxnId) → r a ≡ false → (claims : List Claim) → claim_of a (filter (λ c. r c.txn) claims) ≡ None
+gone r a n [] = refl
+gone r a n (c ∷ cs) = by_tests (filter (λ x. r x.txn) cs) (r c.txn) (is_of a c) refl refl (gone r a n cs)
   where
-    by_tests : (b d : Bool) → is_of a c ≡ b → is_of t c ≡ d → Each R (cond b [] (c ∷ before a cs)) → (Each R (before a cs) → Each R (before a (without t cs)))
-        → Each R (before a (cond (not d) (c ∷ without t cs) (without t cs)))
-    by_tests true true q r h rest =
-        let e : c.txn ≡ a = txn_same c.txn a q in
-        let f : c.txn ≡ t = txn_same c.txn t r in
-        absurd (false≢true (sym n ∙ ap (λ (z : TxnId). same_txn a z) (sym f ∙ e) ∙ txn_own a))
-    by_tests true false q r h rest = subst (λ (b : Bool). Each R (cond b [] (c ∷ before a (without t cs)))) (sym q) tt
-    by_tests false true q r h rest = rest h.1
-    by_tests false false q r h rest = subst (λ (b : Bool). Each R (cond b [] (c ∷ before a (without t cs)))) (sym q) (h.0, rest h.1)
+    by_tests : (left : List Claim) (b d : Bool) → r c.txn ≡ b → is_of a c ≡ d → claim_of a left ≡ None → claim_of a (cond b (c ∷ left) left) ≡ None
+    by_tests left true true k q rest = absurd (false≢true (sym n ∙ ap r (sym (txn_same c.txn a q)) ∙ k))
+    by_tests left true false k q rest = ap (λ (b : Bool). cond b (Some c) (claim_of a left)) q ∙ rest
+    by_tests left false d k q rest = rest
+
+-- who is left passes
+pub passes : (r : TxnId → Bool) (claim : Claim) (claims : List Claim) → claim_of claim.txn (filter (λ c. r c.txn) claims) ≡ Some claim → r claim.txn ≡ true
+passes r claim claims waits = elim (cases_Bool (r claim.txn)) [
+  | inl t ↦ t
+  | inr n ↦ absurd (let nothing = gone r claim.txn n claims in cc (nothing, waits))
+]
+
+pub claim_left : (r : TxnId → Bool) (a : TxnId) → r a ≡ true → (claims : List Claim) → claim_of a (filter (λ c. r c.txn) claims) ≡ claim_of a claims
+claim_left r a t [] = refl
+claim_left r a t (c ∷ cs) = by_tests (filter (λ x. r x.txn) cs) (is_of a c) (r c.txn) refl refl (claim_left r a t cs)
+  where
+    by_tests : (left : List Claim) (b d : Bool) → is_of a c ≡ b → r c.txn ≡ d → claim_of a left ≡ claim_of a cs
+        → claim_of a (cond d (c ∷ left) left) ≡ cond b (Some c) (claim_of a cs)
+    by_tests left true true q k rest = ap (λ (b : Bool). cond b (Some c) (claim_of a left)) q
+    by_tests left true false q k rest = absurd (false≢true (sym k ∙ ap r (txn_same c.txn a q) ∙ t))
+    by_tests left false true q k rest = ap (λ (b : Bool). cond b (Some c) (claim_of a left)) q ∙ rest
+    by_tests left false false q k rest = rest
+
+-- what is in front of one that is left stays in front of it, or goes
+pub before_left : (R : Claim → Type 0) (r : TxnId → Bool) (a : TxnId) → r a ≡ true → (claims : List Claim) → Each R (before a claims)
+    → Each R (before a (filter (λ c. r c.txn) claims))
+before_left R r a t [] h = tt
+before_left R r a t (c ∷ cs) h = by_tests (filter (λ x. r x.txn) cs) (is_of a c) (r c.txn) refl refl h (before_left R r a t cs)
+  where
+    by_tests : (left : List Claim) (b d : Bool) → is_of a c ≡ b → r c.txn ≡ d → Each R (cond b [] (c ∷ before a cs)) → (Each R (before a cs) → Each R (before a left))
+        → Each R (before a (cond d (c ∷ left) left))
+    by_tests left true true q k h rest = subst (λ (b : Bool). Each R (cond b [] (c ∷ before a left))) (sym q) tt
+    by_tests left true false q k h rest = absurd (false≢true (sym k ∙ ap r (txn_same c.txn a q) ∙ t))
+    by_tests left false true q k h rest = subst (λ (b : Bool). Each R (cond b [] (c ∷ before a left))) (sym q) (h.0, rest h.1)
+    by_tests left false false q k h rest = rest h.1
+
+-- ---- at the end
+
+-- where nobody before is the transaction's, the last may be
+pub found_last : (a : TxnId) (last claim : Claim) (claims : List Claim) → claim_of a claims ≡ None → claim_of a (claims ++ last ∷ []) ≡ Some claim
+    → is_of a last ≡ true
+found_last a last claim [] n f = by_test (is_of a last) f
+  where
+    by_test : (b : Bool) → cond b (Some last) None ≡ Some claim → b ≡ true
+    by_test true f = refl
+    by_test false f = absurd (cc (f))
+found_last a last claim (c ∷ cs) n f = by_test (is_of a c) n f (found_last a last claim cs)
+  where
+    by_test : (b : Bool) → cond b (Some c) (claim_of a cs) ≡ None → cond b (Some c) (claim_of a (cs ++ last ∷ [])) ≡ Some claim
+        → (claim_of a cs ≡ None → claim_of a (cs ++ last ∷ []) ≡ Some claim → is_of a last ≡ true) → is_of a last ≡ true
+    by_test true n f rest = absurd (cc (n))
+    by_test false n f rest = rest n f

@@ -2,7 +2,7 @@
 use Rattle.std.proofs.Common.{ℕ, suc, ◌+◌, ◌<◌, ◌≤◌, ◌≡◌, Bool, true, false, not, cond, List, [], ◌∷◌, ◌++◌, length, get_or, take, Some, refl, sym, ap, ◌∙◌}
 use Rattle.std.proofs.Common.{arith}
 use Rattle.std.specs.List.{filter, list_any, remove, position_or_len}
-use Rattle.std.specs.Prelude.{find, Option, None, IsSome, option_map, unwrap_or, if◌then◌else◌, ◌||◌}
+use Rattle.std.specs.Prelude.{find, Option, None, IsSome, is_some, option_map, unwrap_or, if◌then◌else◌, ◌||◌}
 use Rattle.dm_event.specs.declared.step.TxnId.{TxnId}
 use Rattle.dm_locks.proofs.Counts.{none_counted}
 use Rattle.dm_locks.specs.Claims.{is_of, before, answer, claim_of, without}
@@ -73,13 +73,13 @@ pub some_of : {X : Type 0} (o : Option X) → IsSome o → (x : X) × (o ≡ Som
 some_of None h = absurd (cc (h))
 some_of (Some x) h = (x, refl)
 
-pub any_found : {X : Type 0} (p : X → Bool) (xs : List X) → list_any p xs ≡ true → IsSome (find p xs)
-any_found p [] h = absurd (cc (h))
-any_found p (x ∷ xs) h = by_test (p x) h (any_found p xs)
+pub any_is_found : {X : Type 0} (p : X → Bool) (xs : List X) → list_any p xs ≡ is_some (find p xs)
+any_is_found p [] = refl
+any_is_found p (x ∷ xs) = by_test (p x) (any_is_found p xs)
   where
-    by_test : (b : Bool) → (b || list_any p xs) ≡ true → (list_any p xs ≡ true → IsSome (find p xs)) → IsSome (cond b (Some x) (find p xs))
-    by_test true e rest = refl
-    by_test false e rest = rest e
+    by_test : (b : Bool) → list_any p xs ≡ is_some (find p xs) → (b || list_any p xs) ≡ is_some (cond b (Some x) (find p xs))
+    by_test true rest = refl
+    by_test false rest = rest
 
 -- what the waiter at its place is answered
 pub answered_at : (txn : TxnId) (claim : Claim) (holders waiters : List Claim) (at : ℕ) (keys : List ℕ) → claim_of txn waiters ≡ Some claim

@@ -1,14 +1,15 @@
 -- Every run of calls leaves a sound table.
-use Rattle.std.proofs.Common.{◌≤◌, ◌≡◌, Bool, true, false, List, [], ◌∷◌, ◌++◌, length, Option, Some, None, refl, subst, arith}
+use Rattle.std.proofs.Common.{◌≤◌, ◌≡◌, Bool, true, false, not, List, [], ◌∷◌, ◌++◌, length, Option, Some, None, refl, subst, arith}
 use Rattle.std.proofs.lemmas.List.{length-append}
 use Rattle.std.specs.Prelude.{if◌then◌else◌, option_map, unwrap_or}
 use Rattle.dm_event.specs.declared.limits.TheConstants.{MAX_SESSIONS}
 use Rattle.dm_event.specs.declared.step.TxnId.{TxnId}
 use Rattle.dm_locks.proofs.Answers.{got_from}
-use Rattle.dm_locks.proofs.Sound.{few_claims, gives_back, got_holds, got_moves, waits_more}
-use Rattle.dm_locks.specs.Calls.{Call, Ask, Poll, GiveBack, Clear, IsRun, MayCall, Reached, after, after_all}
-use Rattle.dm_locks.specs.Claims.{answer, claim_of}
-use Rattle.dm_locks.specs.Locks.{Locks, answer_at_poll, asked, everyone, granted, is_got, no_locks, polled}
+use Rattle.dm_locks.proofs.Sound.{few_claims, fewer_hold, fewer_wait, got_holds, got_moves, waits_more}
+use Rattle.dm_locks.proofs.Line.{in_line_sound}
+use Rattle.dm_locks.specs.Calls.{Call, Ask, Poll, GiveBack, Withdraw, LeaveLine, Take, Clear, IsRun, MayCall, Reached, after, after_all}
+use Rattle.dm_locks.specs.Claims.{answer, claim_of, is_of, is_of_session, without}
+use Rattle.dm_locks.specs.Locks.{Locks, answer_at_poll, asked, everyone, granted, in_line, is_got, no_locks, polled}
 use Rattle.dm_locks.specs.Sound.{Sound}
 use Rattle.dm_locks.specs.declared.claim.Claim.{Claim}
 
@@ -36,10 +37,18 @@ polled_sound locks txn h = by_answer (is_got (answer_at_poll locks txn)) refl
     by_answer true e = by_claim (claim_of txn locks.waiters) refl e
     by_answer false e = h
 
+gives_back : (txn : TxnId) (holders waiters : List Claim) → Sound (record { holders = holders; waiters = waiters })
+    → Sound (record { holders = without txn holders; waiters = without txn waiters })
+gives_back txn holders waiters h =
+    fewer_hold (λ c. not (is_of txn c)) holders (without txn waiters) (fewer_wait (λ c. not (is_of txn c)) holders waiters h)
+
 after_sound : (locks : Locks) (call : Call) → Sound locks → MayCall locks call → Sound (after locks call)
 after_sound locks (Ask claim) h may = asked_sound locks claim h may
 after_sound locks (Poll txn) h may = polled_sound locks txn h
 after_sound locks (GiveBack txn) h may = gives_back txn locks.holders locks.waiters h
+after_sound locks (Withdraw txn) h may = fewer_wait (λ c. not (is_of txn c)) locks.holders locks.waiters h
+after_sound locks (LeaveLine session) h may = fewer_wait (λ c. not (is_of_session session c)) locks.holders locks.waiters h
+after_sound locks (Take claim) h may = polled_sound (in_line locks claim) claim.txn (in_line_sound locks claim h may.session may.free)
 after_sound locks Clear h may = nothing_sound
 
 run_sound : (locks : Locks) (calls : List Call) → Sound locks → IsRun locks calls → Sound (after_all locks calls)

@@ -101,25 +101,37 @@ waits_more claim holders waiters h r z =
 
 -- ---- a claim less
 
-pub gives_back : (txn : TxnId) (holders waiters : List Claim) → Sound (record { holders = holders; waiters = waiters })
-    → Sound (record { holders = without txn holders; waiters = without txn waiters })
-gives_back txn holders waiters h =
+pub fewer_hold : (kept : Claim → Bool) (holders waiters : List Claim) → Sound (record { holders = holders; waiters = waiters })
+    → Sound (record { holders = filter kept holders; waiters = waiters })
+fewer_hold kept holders waiters h =
     let p = each_parts InRange holders waiters h.in_range in
-    let others = λ (claim : Claim). not (is_of txn claim) in
     record {
-      in_range = each_both InRange (without txn holders) (without txn waiters) (each_filter InRange others holders p.0)
-          (each_filter InRange others waiters p.1);
+      in_range = each_both InRange (filter kept holders) waiters (each_filter InRange kept holders p.0) p.1;
       one_claim = λ session.
-          let a = count-append (is_of_session session) (without txn holders) (without txn waiters) in
+          let a = count-append (is_of_session session) (filter kept holders) waiters in
           let c = count-append (is_of_session session) holders waiters in
-          let l = count-filter (is_of_session session) others holders in
-          let m = count-filter (is_of_session session) others waiters in
+          let l = count-filter (is_of_session session) kept holders in
           let n = h.one_claim session in
           omega arith;
       one_holder = λ key.
-          let l = count-filter (has_key key) others holders in
+          let l = count-filter (has_key key) kept holders in
           let n = h.one_holder key in
           omega arith;
+    }
+
+pub fewer_wait : (kept : Claim → Bool) (holders waiters : List Claim) → Sound (record { holders = holders; waiters = waiters })
+    → Sound (record { holders = holders; waiters = filter kept waiters })
+fewer_wait kept holders waiters h =
+    let p = each_parts InRange holders waiters h.in_range in
+    record {
+      in_range = each_both InRange holders (filter kept waiters) p.0 (each_filter InRange kept waiters p.1);
+      one_claim = λ session.
+          let a = count-append (is_of_session session) holders (filter kept waiters) in
+          let c = count-append (is_of_session session) holders waiters in
+          let m = count-filter (is_of_session session) kept waiters in
+          let n = h.one_claim session in
+          omega arith;
+      one_holder = h.one_holder;
     }
 
 -- ---- from one list to the other

@@ -1,8 +1,8 @@
 -- Whole runs of calls.
-use Rattle.std.specs.Prelude.{ℕ, ◌≡◌, List, [], ◌∷◌, Some, IsSome, IsTrue}
+use Rattle.std.specs.Prelude.{ℕ, ◌≡◌, List, [], ◌∷◌, Some, IfSome, IsSome, IsTrue}
 use Rattle.dm_event.specs.declared.step.TxnId.{TxnId}
 use Rattle.dm_locks.specs.Claims.{claim_of, has_key, is_of_session}
-use Rattle.dm_locks.specs.Locks.{Locks, asked, everyone, given_back, no_locks, polled}
+use Rattle.dm_locks.specs.Locks.{Locks, asked, everyone, given_back, left_line, no_locks, polled, taken, withdrawn}
 use Rattle.dm_locks.specs.Sound.{InRange}
 use Rattle.dm_locks.specs.declared.claim.Claim.{Claim}
 use Rattle.dm_model.specs.Words.{count_of}
@@ -12,12 +12,18 @@ pub data Call : Type 0 where
   Ask : Claim → Call
   Poll : TxnId → Call
   GiveBack : TxnId → Call
+  Withdraw : TxnId → Call
+  LeaveLine : ℕ → Call
+  Take : Claim → Call
   Clear : Call
 
 abbrev pub after : Locks → Call → Locks
 after locks (Ask claim) = asked locks claim
 after locks (Poll txn) = polled locks txn
 after locks (GiveBack txn) = given_back locks txn
+after locks (Withdraw txn) = withdrawn locks txn
+after locks (LeaveLine session) = left_line locks session
+after locks (Take claim) = taken locks claim
 after locks Clear = no_locks
 
 -- the table after all the calls, in their order
@@ -30,11 +36,20 @@ pub record MayAsk (locks : Locks) (claim : Claim) : Type 0 where
   pub session : InRange claim
   pub no_claim : count_of (is_of_session claim.txn.session) (everyone locks) ≡ 0
 
+-- who takes is of a session that holds nothing, and where it waits already, for these keys
+pub record MayTake (locks : Locks) (claim : Claim) : Type 0 where
+  pub session : InRange claim
+  pub free : count_of (is_of_session claim.txn.session) locks.holders ≡ 0
+  pub keys : IfSome (claim_of claim.txn locks.waiters) (λ waiting. waiting.keys ≡ claim.keys)
+
 -- who polls waits
 abbrev pub MayCall : Locks → Call → Type 0
 MayCall locks (Ask claim) = MayAsk locks claim
 MayCall locks (Poll txn) = IsSome (claim_of txn locks.waiters)
 MayCall locks (GiveBack txn) = Unit {0}
+MayCall locks (Withdraw txn) = Unit {0}
+MayCall locks (LeaveLine session) = Unit {0}
+MayCall locks (Take claim) = MayTake locks claim
 MayCall locks Clear = Unit {0}
 
 -- each call may be made where it comes

@@ -26,6 +26,10 @@ claim_of txn claims = find (is_of txn) claims
 abbrev pub without : TxnId → List Claim → List Claim
 without txn claims = filter (λ claim. not (is_of txn claim)) claims
 
+-- the claims of other sessions
+abbrev pub of_others : ℕ → List Claim → List Claim
+of_others session claims = filter (λ claim. not (is_of_session session claim)) claims
+
 -- the claims in front of the transaction's, all where it has none
 abbrev pub before : TxnId → List Claim → List Claim
 before txn [] = []

@@ -1,7 +1,7 @@
 -- The lock table as its two lists, and what each call makes of them.
-use Rattle.std.specs.Prelude.{ℕ, Bool, true, false, if◌then◌else◌, List, [], ◌∷◌, ◌++◌, option_map, unwrap_or}
+use Rattle.std.specs.Prelude.{ℕ, Bool, true, false, if◌then◌else◌, List, [], ◌∷◌, ◌++◌, is_some, option_map, unwrap_or}
 use Rattle.dm_event.specs.declared.step.TxnId.{TxnId}
-use Rattle.dm_locks.specs.Claims.{claim_of, without, before, answer}
+use Rattle.dm_locks.specs.Claims.{claim_of, without, of_others, before, answer}
 use Rattle.dm_locks.specs.declared.claim.Claim.{Claim}
 use Rattle.dm_locks.specs.declared.table.LockAnswer.{LockAnswer}
 use Rattle.dm_locks.specs.declared.table.LockAnswer.TheVariants.{Got, Waits}
@@ -51,3 +51,22 @@ polled locks txn =
 
 abbrev pub given_back : Locks → TxnId → Locks
 given_back locks txn = record { holders = without txn locks.holders; waiters = without txn locks.waiters }
+
+abbrev pub withdrawn : Locks → TxnId → Locks
+withdrawn locks txn = record locks { waiters = without txn locks.waiters }
+
+-- ---- a session's attempts, one after the other
+
+-- its session waits for nothing any more
+abbrev pub left_line : Locks → ℕ → Locks
+left_line locks session = record locks { waiters = of_others session locks.waiters }
+
+-- the claim in line: where it waits already, else behind all others, in place of what its session waited for
+abbrev pub in_line : Locks → Claim → Locks
+in_line locks claim =
+    if is_some (claim_of claim.txn locks.waiters) then locks
+    else record locks { waiters = of_others claim.txn.session locks.waiters ++ claim ∷ [] }
+
+-- a claim that stands in line is polled at once
+abbrev pub taken : Locks → Claim → Locks
+taken locks claim = polled (in_line locks claim) claim.txn

@@ -1,10 +1,12 @@
 //! The table: its two lists, and the calls on them.
 
-ghost use Rattle.std.specs.Prelude.{◌≡◌, ◌==◌, ◌≤◌, ◌<◌, ◌++◌, ◌∷◌, [], IfOk, IsSome, option_map, find, length, vec_len, vec_capacity};
+ghost use Rattle.std.specs.Prelude.{◌≡◌, ◌==◌, ◌≤◌, ◌<◌, ◌++◌, ◌∷◌, [], IfOk, IfSome, IsSome, is_some, option_map, find, length, vec_len, vec_capacity};
 ghost use Rattle.std.specs.List.{list_any, position_or_len};
 ghost use Rattle.dm_model.specs.Words.{count_of};
-ghost use Rattle.dm_locks.specs.Claims.{answer, claim_of, is_of, is_of_session, without};
-ghost use Rattle.dm_locks.specs.Locks.{no_locks, everyone, asked, answer_at_poll, polled, given_back};
+ghost use Rattle.dm_locks.specs.Claims.{answer, claim_of, is_of, is_of_session, of_others, without};
+ghost use Rattle.dm_locks.specs.Line.{Taken};
+ghost use Rattle.dm_locks.specs.Locks.{no_locks, everyone, ahead, asked, answer_at_poll, polled, given_back, withdrawn, left_line, in_line, taken};
+ghost use Rattle.dm_locks.specs.Sound.{Sound};
 
 use crate::claim::{Claim, answer_beside};
 use dm_event::{Key, Keys, MAX_SESSIONS, NoMemory, TxnId};
@@ -92,8 +94,47 @@ impl LockTable {
     pub fn give_back(&mut self, txn: TxnId)
         ensures { self.new ≡ given_back self.old txn }
     {
+        self.withdraw(txn);
         take_out(&mut self.holders, txn);
+    }
+
+    /// The transaction doesn't wait any more. What it holds it goes on holding.
+    pub fn withdraw(&mut self, txn: TxnId)
+        ensures { self.new ≡ withdrawn self.old txn }
+    {
         take_out(&mut self.waiters, txn);
+    }
+
+    /// The session waits for nothing any more.
+    pub fn leave_line(&mut self, session: u32)
+        ensures { self.new ≡ left_line self.old session }
+    {
+        leave_others(&mut self.waiters, session);
+    }
+
+    /// Asks for the keys, again where the transaction waits already. Whatever else its session waits for
+    /// is withdrawn.
+    pub fn take(&mut self, txn: TxnId, keys: Keys) -> LockAnswer
+        requires session { (1 ≤ txn.session) × (txn.session ≤ MAX_SESSIONS) }
+        requires free { count_of (is_of_session txn.session) self.old.holders ≡ 0 }
+        requires keys { IfSome (claim_of txn self.old.waiters) (λ waiting. waiting.keys ≡ keys) }
+        ensures answer { result ≡ answer keys (ahead txn (in_line self.old (record { txn = txn; keys = keys }))) }
+        ensures locks { self.new ≡ taken self.old (record { txn = txn; keys = keys }) }
+        ensures tells { Taken (record { txn = txn; keys = keys }) self.old self.new result }
+    {
+        self.is_sound();
+        if self.waits(txn) {
+            return self.poll(txn);
+        }
+        self.leave_line(txn.session);
+        self.ask(txn, keys)
+    }
+
+    /// What holds of every table: a session has one claim at most, and a key has one holder at most.
+    pub fn is_sound(&self)
+        ensures { Sound self.now }
+    {
+        let _holders = self.holders.len();
     }
 
     pub fn clear(&mut self)
@@ -108,6 +149,13 @@ impl LockTable {
         ensures { result ≡ list_any (is_of txn) self.now.holders }
     {
         has_claim(&self.holders, txn)
+    }
+
+    /// Whether the transaction is a waiter.
+    pub fn waits(&self, txn: TxnId) -> bool
+        ensures { result ≡ is_some (claim_of txn self.now.waiters) }
+    {
+        has_claim(&self.waiters, txn)
     }
 
     /// The transaction of the session that waits.
@@ -164,4 +212,12 @@ fn take_out(claims: &mut Vec<Claim>, txn: TxnId)
     ensures capacity { vec_capacity claims.new ≡ vec_capacity claims.old }
 {
     claims.retain(|claim| !claim.txn.same(&txn));
+}
+
+/// Leaves the claims of other sessions.
+fn leave_others(claims: &mut Vec<Claim>, session: u32)
+    ensures items { claims.new.items ≡ of_others session claims.old.items }
+    ensures capacity { vec_capacity claims.new ≡ vec_capacity claims.old }
+{
+    claims.retain(|claim| claim.txn.session != session);
 }

@@ -12,7 +12,7 @@ ghost use Rattle.dm_store.specs.Rising.{is_above, may_install};
 use crate::Past;
 use crate::chains::Chains;
 use crate::version::Installed;
-use dm_event::{Key, MAX_KEYS, NoMemory, Pairs, Schema, SiteNo, Value, Vector};
+use dm_event::{Key, MAX_KEYS, NoMemory, Pair, Pairs, Schema, SiteNo, Value, Vector};
 use std::alloc::Global;
 use std::marker::Model;
 
@@ -65,7 +65,7 @@ impl Store {
     {
         let mut store = Store::new(alloc, schema)?;
         for transaction in past {
-            store.know_all(&transaction.writes)?;
+            store.know_each(transaction.writes.as_slice())?;
             store.reserve(1)?;
             store.install(transaction.origin, transaction.seq, &transaction.writes);
         }
@@ -86,14 +86,15 @@ impl Store {
         self.chains.know(key)
     }
 
-    /// Makes the keys of the pairs known ones.
-    fn know_all(&mut self, pairs: &Pairs) -> Result<(), NoMemory>
+    /// Makes the keys of the pairs known ones. Where memory runs out, some of them may be known.
+    pub fn know_each(&mut self, pairs: &[Pair]) -> Result<(), NoMemory>
         ensures all { OnOk result (AreKnown self.new.known pairs.now) }
         ensures stay { (key : ℕ) → IsTrue (is_among self.old.known key) → IsTrue (is_among self.new.known key) }
         ensures layout { self.new.layout ≡ self.old.layout }
         ensures installed { self.new.installed ≡ self.old.installed }
+        ensures spare { self.new.spare ≡ self.old.spare }
     {
-        for pair in pairs.as_slice() {
+        for pair in pairs {
             self.know(pair.key)?;
         }
         Ok(())

@@ -1,7 +1,6 @@
 //! A table whose answers are known.
 
-ghost use Rattle.std.specs.Prelude.{◌≡◌, IsSome, IsTrue};
-ghost use Rattle.dm_locks.specs.Claims.{claim_of};
+ghost use Rattle.std.specs.Prelude.{◌≡◌};
 
 use dm_event::{Key, Keys, TxnId};
 use dm_locks::{LockAnswer, LockTable};
@@ -13,6 +12,7 @@ enum Deed {
     Asks(&'static [Key]),
     Polls,
     GivesBack,
+    Withdraws,
 }
 
 fn txn(session: u32) -> TxnId
@@ -22,16 +22,6 @@ fn txn(session: u32) -> TxnId
         session,
         number: 1,
         attempt: 1,
-    }
-}
-
-/// Whether the transaction waits.
-fn is_waiting(table: &LockTable, txn: TxnId) -> bool
-    ensures { IsTrue result → IsSome (claim_of txn table.now.waiters) }
-{
-    match table.waiter(txn.session) {
-        Some(other) => other.same(&txn),
-        None => false,
     }
 }
 
@@ -48,7 +38,7 @@ fn ask(alloc: Global, table: &mut LockTable, session: u32, keys: &[Key]) -> Opti
 /// The answer to the session, where it waits.
 fn poll(table: &mut LockTable, session: u32) -> Option<LockAnswer> {
     let by = txn(session);
-    if is_waiting(table, by) {
+    if table.waits(by) {
         Some(table.poll(by))
     } else {
         None
@@ -77,6 +67,26 @@ const BEHIND_2: Option<LockAnswer> = Some(LockAnswer::Waits {
     key: 4,
 });
 
+/// Session 2 has key 3 too.
+const AFTER_2: Option<LockAnswer> = Some(LockAnswer::Waits {
+    by: TxnId {
+        session: 2,
+        number: 1,
+        attempt: 1,
+    },
+    key: 3,
+});
+
+/// Session 3 has key 4 too.
+const BEHIND_3: Option<LockAnswer> = Some(LockAnswer::Waits {
+    by: TxnId {
+        session: 3,
+        number: 1,
+        attempt: 1,
+    },
+    key: 4,
+});
+
 /// The session, what it does, and what it is answered.
 const DEEDS: &[(u32, Deed, Option<LockAnswer>)] = &[
     (1, Deed::Asks(&[3]), GOT),
@@ -90,6 +100,14 @@ const DEEDS: &[(u32, Deed, Option<LockAnswer>)] = &[
     (2, Deed::GivesBack, None),
     (3, Deed::Polls, GOT),
     (3, Deed::Asks(&[]), None),
+    (2, Deed::Asks(&[4, 3]), BEHIND_3),
+    (1, Deed::Asks(&[3]), AFTER_2),
+    (3, Deed::Withdraws, None),
+    (2, Deed::Polls, BEHIND_3),
+    (1, Deed::Polls, AFTER_2),
+    (2, Deed::Withdraws, None),
+    (2, Deed::Polls, None),
+    (1, Deed::Polls, GOT),
 ];
 
 #[test]
@@ -101,6 +119,10 @@ fn nobody_overtakes_an_earlier_waiter(rt: HostRuntime) -> Result<(), Fail> {
             Deed::Polls => poll(&mut table, *session),
             Deed::GivesBack => {
                 table.give_back(txn(*session));
+                None
+            }
+            Deed::Withdraws => {
+                table.withdraw(txn(*session));
                 None
             }
         };
