@@ -1,9 +1,9 @@
 -- One change more joins a record.
-use Rattle.std.proofs.Common.{◌≡◌, refl, sym, ◌∙◌, ap, subst, ℕ, zero, suc, ◌*◌, ◌<◌, ◌+◌, ◌-◌, ◌≤◌, Bool, List, [], ◌∷◌, ◌++◌, length, take, drop, arith, length-drop}
-use Rattle.std.proofs.lemmas.List.{take-append-le, drop-append-le, take_all}
+use Rattle.std.proofs.Common.{◌≡◌, refl, sym, ◌∙◌, ap, subst, ℕ, zero, suc, ◌*◌, ◌<◌, ◌+◌, ◌-◌, ◌≤◌, Bool, List, [], ◌∷◌, ◌++◌, length, take, drop, replicate, arith, length-drop}
+use Rattle.std.proofs.lemmas.List.{append-nil, length-append, length-replicate, take-append-le, drop-append-le, take_all, drop_all}
 use Rattle.dm_logdisk.specs.declared.memory.Kept.{Kept}
 use Rattle.dm_logdisk.specs.declared.memory.Kept.TheVariants as kept
-use Rattle.dm_logdisk.specs.Story.{Story, opened, noted, wrote, cut_to, synced}
+use Rattle.dm_logdisk.specs.Story.{Story, opened, noted, wrote, cut_to, synced, filled, overwritten}
 use Rattle.dm_logdisk.specs.Kept.{story_from, story_of, first_of, total}
 
 no_bytes : (pieces : List ℕ) → 0 ≡ length pieces → pieces ≡ []
@@ -91,3 +91,13 @@ room_left len size (suc calls) reach cap some fits room =
     let less : suc calls - 1 ≡ calls = omega arith in
     let left : len + size + calls * reach ≤ cap = omega (arith, one, fits, room) in
     subst (λ (k : ℕ). len + size + k * reach ≤ cap) (sym less) left
+
+-- a write that begins at the end
+pub overwritten_end : (at : ℕ) (piece bytes : List ℕ) → at ≡ length bytes → bytes ++ piece ≡ overwritten at piece bytes
+overwritten_end at piece bytes e =
+    let end = at + length piece in
+    let file : List ℕ = filled bytes end in
+    let long = length-append bytes (replicate (end - length bytes) 0) ∙ ap (λ (n : ℕ). length bytes + n) (length-replicate {A = ℕ} (end - length bytes) 0) in
+    let front : take at file ≡ bytes = take-append-le at bytes _ (omega arith) ∙ take_all at bytes (omega arith) in
+    let rest : drop end file ≡ [] = drop_all end file (omega (arith, long)) in
+    sym (ap (λ (l : List ℕ). l ++ piece ++ drop end file) front ∙ ap (λ (l : List ℕ). bytes ++ piece ++ l) rest ∙ append-nil (bytes ++ piece))

@@ -197,15 +197,28 @@ fn fill(bytes: &mut Vec<u8>, end: usize)
     }
 }
 
+#[tactic(auto, using(crate::proofs::Pushed::overwritten_end))]
+fn overwrite(bytes: &mut Vec<u8>, at: usize, piece: &[u8])
+    requires { at + length piece.now ≤ vec_capacity bytes.old }
+    ensures written { bytes.new.items ≡ overwritten at piece.now bytes.old.items }
+    ensures capacity { vec_capacity bytes.old ≤ vec_capacity bytes.new }
+{
+    if at == bytes.len() {
+        append_piece(bytes, piece);
+    } else {
+        let end = at + piece.len();
+        fill(bytes, end);
+        bytes[at..end].copy_from_slice(piece);
+    }
+}
+
 pub(crate) fn write(bytes: &mut Vec<u8>, at: usize, piece: &[u8], effect: bool)
     requires { at + length piece.now ≤ vec_capacity bytes.old }
     ensures changed { bytes.new.items ≡ changed (wrote at piece.now effect) bytes.old.items }
     ensures capacity { vec_capacity bytes.old ≤ vec_capacity bytes.new }
 {
     if effect {
-        let end = at + piece.len();
-        fill(bytes, end);
-        bytes[at..end].copy_from_slice(piece);
+        overwrite(bytes, at, piece);
     }
 }
 
@@ -229,7 +242,7 @@ fn keep(changes: &mut Vec<Kept>, change: Kept)
     }
 }
 
-fn keep_piece(pieces: &mut Vec<u8>, piece: &[u8])
+fn append_piece(pieces: &mut Vec<u8>, piece: &[u8])
     requires { vec_len pieces.old + length piece.now ≤ vec_capacity pieces.old }
     ensures kept { pieces.new.items ≡ pieces.old.items ++ piece.now }
     ensures len { vec_len pieces.new ≡ vec_len pieces.old + length piece.now }
@@ -292,7 +305,7 @@ impl LogDisk for MemDisk {
         let len = piece.len();
         self.calls_left -= 1;
         keep(&mut self.changes, Kept::Wrote { at, len, effect });
-        keep_piece(&mut self.pieces, piece);
+        append_piece(&mut self.pieces, piece);
         write(&mut self.bytes, at as usize, piece, effect);
         answer(failure, effect, &mut self.faults)
     }

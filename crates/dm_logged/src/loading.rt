@@ -1,100 +1,111 @@
 //! What a load finds in a file, and what it leaves there.
 
-use crate::samples::{Content, content_of, disk_of, drawn, records_on};
-use dm_event::NoMemory;
+use crate::samples::{disk_of, drawn, left_in, records_on};
 use dm_logdisk::{Call, Fail as DiskFail, MemDisk};
 use dm_record::Record;
 use dm_redo::{LoadFault, RedoLog};
 use std::alloc::Global;
-use std::test::Fail;
 
-/// The fault of a load, if it had one, with the records that it found and the file as it was left.
-type Loaded = (Option<LoadFault>, Content);
-
-fn loaded(alloc: Global, disk: MemDisk) -> Result<Loaded, NoMemory> {
+/// A load finds records of these kinds, and leaves the file that a text draws.
+fn loads(alloc: Global, disk: MemDisk, records: &str, left: &str) -> bool {
     match RedoLog::load(alloc, disk) {
-        Ok(log) => Ok((None, content_of(alloc, log)?)),
-        Err((disk, fault)) => Ok((Some(fault), left_on(alloc, disk)?)),
+        Ok(log) => left_in(alloc, log, left) == (records, true),
+        Err(_) => false,
     }
-}
-
-/// A disk on which no log was found.
-fn left_on(alloc: Global, disk: MemDisk) -> Result<Content, NoMemory> {
-    let bytes = disk.bytes().to_vec(alloc);
-    Ok(Content {
-        records: String::new(alloc),
-        bytes: bytes?,
-    })
 }
 
 /// The file that a text draws, cut to so many bytes.
-fn cut(alloc: Global, text: &str, keep: usize) -> Result<Vec<u8>, NoMemory> {
-    let mut bytes = drawn(alloc, text)?;
+fn cut(alloc: Global, text: &str, keep: usize) -> Option<Vec<u8>> {
+    let mut bytes = drawn(alloc, text).ok()?;
     bytes.truncate(keep);
-    Ok(bytes)
+    Some(bytes)
 }
 
-/// What a load makes of such a file.
-fn loaded_cut(alloc: Global, text: &str, keep: usize) -> Result<Loaded, NoMemory> {
-    loaded(
-        alloc,
-        MemDisk::new(cut(alloc, text, keep)?, Vec::new(alloc)),
-    )
-}
-
-/// Each file, cut to so many bytes: what is found in it, and the file that is left; where it is bad, it is left as it was.
-#[test]
-fn files(rt: HostRuntime) -> Result<(), Fail> {
-    let alloc = rt.alloc();
-    let rows = [
-        ("1c0", 61, Ok("c"), "1c0"),
-        ("1c0", 60, Ok("c"), "1c0"),
-        ("1c0", 40, Err(LoadFault::Bad { place: 0 }), ""),
-        ("1c0ff", 63, Ok("c"), "1c0"),
-        ("", 0, Ok(""), "0"),
-        // a gate byte that is the last byte is closed, whatever it is
-        ("0", 1, Ok(""), "0"),
-        ("1", 1, Ok(""), "0"),
-        ("1c1", 61, Ok("c"), "1c0"),
-        // and so is any other than 1
-        ("222", 3, Ok(""), "0"),
-        ("1c0c0", 121, Ok("c"), "1c0"),
-        ("1c00", 62, Ok("c"), "1c0"),
-        // an open gate, and no frame behind it
-        ("1c10", 62, Err(LoadFault::Bad { place: 60 }), ""),
-        ("1c1r0", 93, Err(LoadFault::Bad { place: 60 }), ""),
-        ("1c1r1g0", 128, Ok("crg"), "1c1r1g0"),
-        ("1g1c09", 95, Ok("gc"), "1g1c0"),
-    ];
-    for (text, keep, want, left) in rows {
-        let bytes = match want {
-            Ok(_) => drawn(alloc, left)?,
-            Err(_) => cut(alloc, text, keep)?,
-        };
-        let (fault, content) = loaded_cut(alloc, text, keep)?;
-        assert_eq!(rt; fault, want.err(), "{text} {keep}");
-        assert_eq!(rt;
-            content.records.as_str(),
-            want.unwrap_or(""),
-            "{text} {keep}"
-        );
-        assert_eq!(rt; content.bytes.as_slice(), bytes.as_slice(), "{text} {keep}");
+fn is_cut(alloc: Global, bytes: &[u8], text: &str, keep: usize) -> bool {
+    match cut(alloc, text, keep) {
+        Some(want) => bytes == want.as_slice(),
+        None => false,
     }
-    Ok(())
 }
 
-/// A tidy file takes no changing call: each would fail.
+/// A disk with such a file.
+fn disk_cut(alloc: Global, text: &str, keep: usize) -> Option<MemDisk> {
+    Some(MemDisk::new(cut(alloc, text, keep)?, Vec::new(alloc)))
+}
+
+fn loads_cut(alloc: Global, text: &str, keep: usize, records: &str, left: &str) -> bool {
+    match disk_cut(alloc, text, keep) {
+        Some(disk) => loads(alloc, disk, records, left),
+        None => false,
+    }
+}
+
+/// Files, cut to so many bytes: the records that are found, and the file that is left.
+const FILES: [(&str, usize, &str, &str); 12] = [
+    ("1c0", 61, "c", "1c0"),
+    ("1c0", 60, "c", "1c0"),
+    ("1c0ff", 63, "c", "1c0"),
+    ("", 0, "", "0"),
+    // a gate byte that is the last byte is closed, whatever it is
+    ("0", 1, "", "0"),
+    ("1", 1, "", "0"),
+    ("1c1", 61, "c", "1c0"),
+    // and so is any other than 1
+    ("222", 3, "", "0"),
+    ("1c0c0", 121, "c", "1c0"),
+    ("1c00", 62, "c", "1c0"),
+    ("1c1r1g0", 128, "crg", "1c1r1g0"),
+    ("1g1c09", 95, "gc", "1g1c0"),
+];
+
 #[test]
-fn idle(rt: HostRuntime) -> Result<(), Fail> {
+fn files(rt: HostRuntime) {
     let alloc = rt.alloc();
-    let [cut, write, sync] = [Call::Cut, Call::Write, Call::Sync].map(|call| DiskFail {
+    let wrong = FILES.iter().position(|(text, keep, records, left)| !loads_cut(
+        alloc, text, *keep, records, left,
+    ));
+    assert_eq!(rt; wrong, None);
+}
+
+/// A load finds an open gate at the place and no frame behind it, and leaves the file as it was.
+fn is_bad(alloc: Global, text: &str, keep: usize, place: u64) -> bool {
+    let Some(disk) = disk_cut(alloc, text, keep) else {
+        return false;
+    };
+    match RedoLog::load(alloc, disk) {
+        Ok(_) => false,
+        Err((disk, fault)) => {
+            fault == LoadFault::Bad { place } && is_cut(alloc, disk.bytes(), text, keep)
+        }
+    }
+}
+
+/// Files, cut to so many bytes, and the place where they are bad.
+const BAD: [(&str, usize, u64); 3] = [("1c0", 40, 0), ("1c10", 62, 60), ("1c1r0", 93, 60)];
+
+#[test]
+fn bad_files(rt: HostRuntime) {
+    let alloc = rt.alloc();
+    let wrong = BAD
+        .iter()
+        .position(|(text, keep, place)| !is_bad(alloc, text, *keep, *place));
+    assert_eq!(rt; wrong, None);
+}
+
+/// The records of a tidy file, where each changing call would fail.
+fn idle_records(alloc: Global) -> Option<&'static str> {
+    let fails = [Call::Cut, Call::Write, Call::Sync].map(|call| DiskFail {
         call,
         nth: 1,
         effect: true,
     });
-    let disk = disk_of(alloc, "1c0", &[cut, write, sync])?;
-    assert_eq!(rt; records_on(alloc, disk)?.as_str(), "c");
-    Ok(())
+    records_on(alloc, disk_of(alloc, "1c0", &fails)?)
+}
+
+/// A tidy file takes no changing call.
+#[test]
+fn idle(rt: HostRuntime) {
+    assert_eq!(rt; idle_records(rt.alloc()), Some("c"));
 }
 
 /// What a load answers of the file of one commit with one byte changed.
@@ -122,84 +133,90 @@ fn seen_records(records: &[Record]) -> Option<Seen> {
 }
 
 /// What a load answers where the byte at a place is changed.
-fn answer_with(alloc: Global, place: usize, byte: u8) -> Result<Option<Seen>, Fail> {
-    let mut bytes = drawn(alloc, "1c0")?;
+fn answer_with(alloc: Global, place: usize, byte: u8) -> Option<Seen> {
+    let mut bytes = drawn(alloc, "1c0").ok()?;
     if let Some(there) = bytes.get_mut(place) {
         *there = byte;
     }
-    Ok(answer_of(alloc, bytes))
+    answer_of(alloc, bytes)
+}
+
+/// What a load answers where the byte at a place is changed to 0, to 1 and to 255.
+fn are_answers(alloc: Global, place: usize, want: [Seen; 3]) -> bool {
+    [0, 1, 255].into_iter().zip(want).all(|(byte, want)| answer_with(alloc, place, byte)
+        == Some(want))
 }
 
 /// Each byte of the file of one commit, from one place to in front of another, changed to 0, to 1 and to 255.
+const CHANGED: [(usize, usize, [Seen; 3]); 18] = [
+    // the gate
+    (0, 1, [Seen::None, Seen::One, Seen::None]),
+    // the length is that of the body
+    (1, 4, [Seen::One, Seen::Bad, Seen::Bad]),
+    (4, 5, [Seen::Bad, Seen::Bad, Seen::Bad]),
+    // no other kind has this length
+    (5, 6, [Seen::Bad, Seen::One, Seen::Bad]),
+    // sessions are 1 to 32
+    (6, 9, [Seen::One, Seen::Bad, Seen::Bad]),
+    (9, 10, [Seen::Bad, Seen::One, Seen::Bad]),
+    // numbers, attempts and seqs are 1 at least
+    (10, 13, [Seen::One, Seen::One, Seen::One]),
+    (13, 14, [Seen::Bad, Seen::One, Seen::One]),
+    (14, 21, [Seen::One, Seen::One, Seen::One]),
+    (21, 22, [Seen::Bad, Seen::One, Seen::One]),
+    (22, 29, [Seen::One, Seen::One, Seen::One]),
+    (29, 30, [Seen::Bad, Seen::One, Seen::One]),
+    // two components fit the length
+    (30, 31, [Seen::Bad, Seen::Bad, Seen::Bad]),
+    (31, 47, [Seen::One, Seen::One, Seen::One]),
+    // one write fits the length
+    (47, 48, [Seen::Bad, Seen::One, Seen::Bad]),
+    // keys are 16777215 at most
+    (48, 49, [Seen::One, Seen::Bad, Seen::Bad]),
+    (49, 60, [Seen::One, Seen::One, Seen::One]),
+    // the closed gate is the last byte
+    (60, 61, [Seen::One, Seen::One, Seen::One]),
+];
+
 #[test]
-fn one_byte_changed(rt: HostRuntime) -> Result<(), Fail> {
+fn one_byte_changed(rt: HostRuntime) {
     let alloc = rt.alloc();
-    let rows = [
-        // the gate
-        (0, 1, [Seen::None, Seen::One, Seen::None]),
-        // the length is that of the body
-        (1, 4, [Seen::One, Seen::Bad, Seen::Bad]),
-        (4, 5, [Seen::Bad, Seen::Bad, Seen::Bad]),
-        // no other kind has this length
-        (5, 6, [Seen::Bad, Seen::One, Seen::Bad]),
-        // sessions are 1 to 32
-        (6, 9, [Seen::One, Seen::Bad, Seen::Bad]),
-        (9, 10, [Seen::Bad, Seen::One, Seen::Bad]),
-        // numbers, attempts and seqs are 1 at least
-        (10, 13, [Seen::One, Seen::One, Seen::One]),
-        (13, 14, [Seen::Bad, Seen::One, Seen::One]),
-        (14, 21, [Seen::One, Seen::One, Seen::One]),
-        (21, 22, [Seen::Bad, Seen::One, Seen::One]),
-        (22, 29, [Seen::One, Seen::One, Seen::One]),
-        (29, 30, [Seen::Bad, Seen::One, Seen::One]),
-        // two components fit the length
-        (30, 31, [Seen::Bad, Seen::Bad, Seen::Bad]),
-        (31, 47, [Seen::One, Seen::One, Seen::One]),
-        // one write fits the length
-        (47, 48, [Seen::Bad, Seen::One, Seen::Bad]),
-        // keys are 16777215 at most
-        (48, 49, [Seen::One, Seen::Bad, Seen::Bad]),
-        (49, 60, [Seen::One, Seen::One, Seen::One]),
-        // the closed gate is the last byte
-        (60, 61, [Seen::One, Seen::One, Seen::One]),
-    ];
-    for (from, end, want) in rows {
-        for place in from..end {
-            for (byte, want) in [0, 1, 255].into_iter().zip(want) {
-                let answer = answer_with(alloc, place, byte)?;
-                assert_eq!(rt; answer, Some(want), "{byte} at {place}");
-            }
-        }
-    }
-    Ok(())
+    let wrong = CHANGED.iter().position(|(from, end, want)| !(*from..*end).all(|place| are_answers(
+        alloc, place, *want,
+    )));
+    assert_eq!(rt; wrong, None);
 }
 
-/// The fault of a load of which a call fails, and what the next load finds.
-fn loaded_again(alloc: Global, text: &str, fail: DiskFail) -> Result<(LoadFault, Loaded), Fail> {
-    match RedoLog::load(alloc, disk_of(alloc, text, &[fail])?) {
-        Ok(_) => Err("a log".into()),
-        Err((disk, fault)) => Ok((fault, loaded(alloc, disk)?)),
+/// A load fails, and the next one finds the commit.
+fn loads_again(alloc: Global, disk: MemDisk) -> bool {
+    match RedoLog::load(alloc, disk) {
+        Ok(_) => false,
+        Err((disk, fault)) => {
+            let again = loads(alloc, disk, "c", "1c0");
+            fault == LoadFault::Log && again
+        }
     }
 }
 
-/// Each call of a load of a file that is to be cut and closed fails once: the fault, and what the next load finds.
-#[test]
-fn failing(rt: HostRuntime) -> Result<(), Fail> {
-    let alloc = rt.alloc();
-    for call in [Call::Len, Call::Read, Call::Cut, Call::Write, Call::Sync] {
-        for effect in [false, true] {
-            let fail = DiskFail {
-                call,
-                nth: 1,
-                effect,
-            };
-            let bytes = drawn(alloc, "1c0")?;
-            let (first, (fault, content)) = loaded_again(alloc, "1c29", fail)?;
-            assert_eq!(rt; first, LoadFault::Log);
-            assert_eq!(rt; fault, None);
-            assert_eq!(rt; content.records.as_str(), "c");
-            assert_eq!(rt; content.bytes.as_slice(), bytes.as_slice());
-        }
+/// A file that is to be cut and closed, where a call fails once.
+fn fails_once(alloc: Global, call: Call, effect: bool) -> bool {
+    let fail = DiskFail {
+        call,
+        nth: 1,
+        effect,
+    };
+    match disk_of(alloc, "1c29", &[fail]) {
+        Some(disk) => loads_again(alloc, disk),
+        None => false,
     }
-    Ok(())
+}
+
+/// Each call of a load of such a file fails once.
+#[test]
+fn failing(rt: HostRuntime) {
+    let alloc = rt.alloc();
+    let wrong = [Call::Len, Call::Read, Call::Cut, Call::Write, Call::Sync]
+        .iter()
+        .position(|call| !(fails_once(alloc, *call, false) && fails_once(alloc, *call, true)));
+    assert_eq!(rt; wrong, None);
 }

@@ -8,7 +8,6 @@ use dm_logdisk::{Fail as DiskFail, LogDisk, MemDisk};
 use dm_record::{Decoded, Frame, Record, decode, encode};
 use dm_redo::{Appended, RedoLog};
 use std::alloc::Global;
-use std::test::Fail;
 
 /// The frame of a commit: transaction 1 of session 1, attempt 1, seq 1, at the begin vector (0, 0), writes 5 to key 3.
 pub(crate) const COMMIT: [u8; 59] = [
@@ -58,56 +57,81 @@ const TORN: [u8; 33] = [
     0, 255, 0, 255, 0, 255, 0, 255, 0, 255,
 ];
 
+/// Adds what a letter draws.
+fn draw(bytes: &mut Vec<u8>, letter: u8) -> Result<(), NoMemory> {
+    let drawn = match letter {
+        b'c' => bytes.extend_from_slice(&COMMIT),
+        b'r' => bytes.extend_from_slice(&RELEASE),
+        b'g' => bytes.extend_from_slice(&GRANT),
+        b't' => bytes.extend_from_slice(&TORN),
+        b'f' => bytes.extend_from_slice(&[255]),
+        _ => bytes.extend_from_slice(&[letter.wrapping_sub(b'0')]),
+    };
+    Ok(drawn?)
+}
+
 /// The file that a text draws: c, r and g are the frames of the commit, the release and the grant, t is the torn release, f is the byte 255, and
 /// a digit is that byte.
 pub(crate) fn drawn(alloc: Global, text: &str) -> Result<Vec<u8>, NoMemory> {
     let mut bytes = Vec::new(alloc);
     for letter in text.bytes() {
-        match letter {
-            b'c' => bytes.extend_from_slice(&COMMIT)?,
-            b'r' => bytes.extend_from_slice(&RELEASE)?,
-            b'g' => bytes.extend_from_slice(&GRANT)?,
-            b't' => bytes.extend_from_slice(&TORN)?,
-            b'f' => bytes.push(255)?,
-            _ => bytes.push(letter.wrapping_sub(b'0'))?,
-        }
+        draw(&mut bytes, letter)?;
     }
     Ok(bytes)
 }
 
-/// The kinds of the records, as letters of such a text.
-pub(crate) fn kinds(alloc: Global, records: &[Record]) -> Result<String, NoMemory> {
-    let mut kinds = String::new(alloc);
-    for record in records {
-        kinds.push(match record {
-            Record::Commit { .. } => 'c',
-            Record::Release { .. } => 'r',
-            Record::Grant { .. } => 'g',
-        })?;
+/// Whether the text draws these bytes.
+pub(crate) fn is_drawn(alloc: Global, bytes: &[u8], text: &str) -> bool {
+    match drawn(alloc, text) {
+        Ok(want) => bytes == want.as_slice(),
+        Err(_) => false,
     }
-    Ok(kinds)
+}
+
+/// The kinds of the records, as letters of such a text.
+pub(crate) fn kinds(records: &[Record]) -> &'static str {
+    match records {
+        [] => "",
+        [Record::Commit { .. }] => "c",
+        [Record::Commit { .. }, Record::Release { .. }] => "cr",
+        [
+            Record::Commit { .. },
+            Record::Release { .. },
+            Record::Grant { .. },
+        ] => "crg",
+        [Record::Grant { .. }, Record::Commit { .. }] => "gc",
+        _ => "others",
+    }
 }
 
 /// A disk in memory with the file that a text draws, of which these calls fail.
-pub(crate) fn disk_of(alloc: Global, text: &str, fails: &[DiskFail]) -> Result<MemDisk, Fail> {
-    let fails = fails.to_vec(alloc)?;
-    let bytes = drawn(alloc, text)?;
-    Ok(MemDisk::new(bytes, fails))
-}
-
-/// The log on a disk that loads.
-pub(crate) fn log_on<D: LogDisk + Drop>(alloc: Global, disk: D) -> Result<RedoLog<D>, Fail> {
-    match RedoLog::load(alloc, disk) {
-        Ok(log) => Ok(log),
-        Err(_) => Err("no log".into()),
+pub(crate) fn disk_of(alloc: Global, text: &str, fails: &[DiskFail]) -> Option<MemDisk> {
+    let fails = fails.to_vec(alloc);
+    let bytes = drawn(alloc, text);
+    match (bytes, fails) {
+        (Ok(bytes), Ok(fails)) => Some(MemDisk::new(bytes, fails)),
+        _ => None,
     }
 }
 
+/// The log on a disk that loads.
+pub(crate) fn log_on<D: LogDisk + Drop>(alloc: Global, disk: D) -> Option<RedoLog<D>> {
+    RedoLog::load(alloc, disk).ok()
+}
+
 /// The kinds of the records that a load finds on the disk.
-pub(crate) fn records_on<D: LogDisk + Drop>(alloc: Global, disk: D) -> Result<String, Fail> {
-    let log = log_on(alloc, disk)?;
-    let records = kinds(alloc, log.records());
-    Ok(records?)
+pub(crate) fn records_on<D: LogDisk + Drop>(alloc: Global, disk: D) -> Option<&'static str> {
+    match RedoLog::load(alloc, disk) {
+        Ok(log) => Some(kinds(log.records())),
+        Err(_) => None,
+    }
+}
+
+/// The kinds of the records of a log in memory, and whether the text draws its file.
+pub(crate) fn left_in(alloc: Global, log: RedoLog<MemDisk>, text: &str) -> (&'static str, bool) {
+    let records = kinds(log.records());
+    let disk = log.into_disk();
+    (records, is_drawn(alloc, disk.bytes(), text))
 }
 
 /// Makes room for the frame and appends it.
@@ -116,22 +140,4 @@ pub(crate) fn append<D: LogDisk>(log: &mut RedoLog<D>, frame: &Frame) -> Option<
         return None;
     }
     Some(log.append(frame))
-}
-
-/// What a log in memory came to.
-#[derive(Drop)]
-pub(crate) struct Content {
-    /// The kinds of its records.
-    pub(crate) records: String,
-    /// The bytes of its disk.
-    pub(crate) bytes: Vec<u8>,
-}
-
-pub(crate) fn content_of(alloc: Global, log: RedoLog<MemDisk>) -> Result<Content, NoMemory> {
-    let records = kinds(alloc, log.records());
-    let bytes = log.into_disk().bytes().to_vec(alloc);
-    Ok(Content {
-        records: records?,
-        bytes: bytes?,
-    })
 }

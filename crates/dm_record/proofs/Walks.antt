@@ -1,5 +1,5 @@
 -- One step of a walk.
-use Rattle.std.proofs.Common.{◌≡◌, refl, sym, ◌∙◌, ap, ℕ, zero, suc, ◌+◌, ◌-◌, ◌*◌, ◌<◌, ◌≤◌, Bool, true, false, List, length, arith, get_or, lt-ltb, le-ltb, Result, Ok, Err}
+use Rattle.std.proofs.Common.{◌≡◌, refl, sym, ◌∙◌, ap, subst, ℕ, zero, suc, ◌+◌, ◌-◌, ◌*◌, ◌^◌, ◌<◌, ◌≤◌, Bool, true, false, List, length, arith, get_or, lt-ltb, le-ltb, Result, Ok, Err}
 use Rattle.std.proofs.lemmas.Nat.{mul-le}
 use Rattle.std.specs.Prelude.{IfOk, IfErr}
 use Rattle.dm_record.specs.Form.{Form, done, byte, number, walk, span, is_alive}
@@ -84,3 +84,39 @@ dead_above low high so_far width above =
     let one : so_far * 1 ≤ so_far * span width = mul-le so_far 1 so_far (span width) (omega arith) (span_some width) in
     let far : high < so_far * span width = omega (arith, one, above) in
     grind (arith, far)
+
+-- the numbers that begin with one byte more begin with those before it
+pub next_within : (so_far b width : ℕ) → 0 < width → b < 256
+    → (so_far * span width ≤ (so_far * 256 + b) * span (width - 1))
+    × ((so_far * 256 + b) * span (width - 1) + span (width - 1) ≤ so_far * span width + span width)
+next_within so_far b zero some small = absurd (omega arith)
+next_within so_far b (suc k) some small =
+    let same : suc k - 1 ≡ k = omega arith in
+    let ring : (so_far * 256 + b) * span k ≡ so_far * (span k * 256) + b * span k = grind arith in
+    let most : b * span k ≤ 255 * span k = mul-le b (span k) 255 (span k) (omega arith) (omega arith) in
+    subst (λ (j : ℕ). (so_far * (span k * 256) ≤ (so_far * 256 + b) * span j)
+    × ((so_far * 256 + b) * span j + span j ≤ so_far * (span k * 256) + span k * 256)) (sym same) (omega (arith, ring), omega (arith, ring, most))
+
+pub next_fits : (so_far b width : ℕ) → 0 < width → b < 256 → so_far * span width + span width ≤ 2 ^ 64 → so_far * 256 + b < 2 ^ 64
+next_fits so_far b width some small fits =
+    let next = so_far * 256 + b in
+    let s = span (width - 1) in
+    let one : next * 1 ≤ next * s = mul-le next 1 next s (omega arith) (span_some (width - 1)) in
+    omega (arith, one, span_some (width - 1), (next_within so_far b width some small).1, fits)
+
+span_grows : (k n : ℕ) → span k ≤ span (n + k)
+span_grows k zero =
+    let same : 0 + k ≡ k = omega arith in
+    subst (λ (j : ℕ). span k ≤ span j) (sym same) (omega arith)
+span_grows k (suc n) =
+    let same : suc n + k ≡ suc (n + k) = omega arith in
+    subst (λ (j : ℕ). span k ≤ span j) (sym same) (omega (arith, span_grows k n))
+
+pub span_most : (k : ℕ) → k ≤ 8 → span k ≤ 2 ^ 64
+span_most k few =
+    let all : 8 - k + k ≡ 8 = omega arith in
+    subst (λ (n : ℕ). span k ≤ span n) all (span_grows k (8 - k))
+
+pub alive_between : (low high n so_far width : ℕ) → so_far * span width ≤ n → n < so_far * span width + span width → low ≤ n → n ≤ high
+    → is_alive low high so_far width ≡ true
+alive_between low high n so_far width least most above below = grind (arith, least, most, above, below)

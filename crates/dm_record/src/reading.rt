@@ -83,7 +83,24 @@ fn number_behind(
     }
 }
 
+/// The number of which these bytes were read so far and so many more stand there.
+#[tactic(auto, using(crate::proofs::Walks::number_none))]
+fn whole_behind(bytes: &[u8], at: usize, so_far: u64, width: usize) -> u64
+    requires within { at + width ≤ length bytes.now }
+    requires fits { so_far * span width + span width ≤ 2 ^ 64 }
+    ensures least { so_far * span width ≤ result }
+    ensures most { result < so_far * span width + span width }
+    ensures walked { (low high : ℕ) (next : ℕ → Form) → low ≤ result → result ≤ high →
+        walk (number low high so_far width next) bytes.now at ≡ walk (next result) bytes.now (at + width) }
+{
+    if width == 0 {
+        return so_far;
+    }
+    whole_behind(bytes, at + 1, so_far * 256 + bytes[at] as u64, width - 1)
+}
+
 /// Reads a number of so many bytes, from low to high.
+#[tactic(auto, using(crate::proofs::Walks::span_most))]
 pub(crate) fn number(
     bytes: &[u8],
     at: usize,
@@ -100,5 +117,12 @@ pub(crate) fn number(
     ensures most { IfOk result (λ n. n ≤ high) }
     ensures err { IfErr result (λ stop. (next : ℕ → Form) → walk (number low high 0 width next) bytes.now at ≡ stopped stop) }
 {
+    if width <= bytes.len() - at {
+        let n = whole_behind(bytes, at, 0, width);
+        if low <= n && n <= high {
+            return Ok(n);
+        }
+    }
+    // Byte by byte it is told where the number ends, or goes wrong.
     number_behind(bytes, at, low, high, 0, width)
 }
