@@ -8,3 +8,4 @@ mod reason;
 
 pub use part::{ByteText, ChoiceText};
 pub use printing::{print_step, print_why, put_step, put_why};
+pub use reason::WhyText;

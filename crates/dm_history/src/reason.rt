@@ -8,8 +8,9 @@ use dm_event::Why;
 use dm_text::{TxnText, VectorText};
 use std::fmt;
 
+/// Displays why a step may not come, with no line feed.
 #[derive(Drop)]
-pub(crate) struct WhyText<'a>(pub(crate) &'a Why);
+pub struct WhyText<'a>(pub &'a Why);
 
 impl fmt::Display for WhyText<'_> {
     ghost output = { λ t. Some (why_text t.0.now) };

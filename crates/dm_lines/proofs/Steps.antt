@@ -5,10 +5,11 @@ use Rattle.std.proofs.lemmas.List.{drop_all}
 use Rattle.std.proofs.lemmas.List.Elements.{All-append}
 use Rattle.dm_lines.specs.declared.line.Line.{Line}
 use Rattle.dm_event.specs.declared.why.LineFault.{LineFault}
-use Rattle.dm_lines.specs.declared.fault.LineError.{LineError}
-use Rattle.dm_lines.specs.declared.fault.LineError.TheVariants as errors
-use Rattle.dm_lines.specs.Fields.{Fails}
-use Rattle.dm_lines.specs.File.{SoFar, Told, Faulty, read_from, after_line, unless_faulty, ended, Stops, at_line}
+use Rattle.dm_fields.specs.declared.fault.LineError.{LineError}
+use Rattle.dm_fields.specs.declared.fault.LineError.TheVariants as errors
+use Rattle.dm_fields.specs.Fields.{Fails}
+use Rattle.dm_fields.specs.Faults.{Faulty, Stops, at_line}
+use Rattle.dm_lines.specs.File.{SoFar, Told, read_from, after_line, unless_faulty, ended}
 
 -- what holds of each line holds with a line more of which it holds
 pub one_more : (P : Line → Type 0) (xs : List Line) (x : Line) → All P xs → P x → All P (xs ++ x ∷ [])

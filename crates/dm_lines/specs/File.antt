@@ -1,20 +1,17 @@
 -- How a step file is read, line by line.
-use Rattle.std.specs.Prelude.{◌≡◌, ℕ, ◌+◌, List, [], ◌∷◌, ◌++◌, Result, Ok, Err, All, IsTrue, Bool, true, ◌==◌, if◌then◌else◌, codes}
+use Rattle.std.specs.Prelude.{ℕ, ◌+◌, List, [], ◌∷◌, ◌++◌, Result, Ok, Err, All, IsTrue, Bool, true, ◌==◌, if◌then◌else◌, codes}
 use Rattle.std.specs.Str.{bytes_eq}
 use Rattle.std.specs.Str.Lines.{lines}
 use Rattle.dm_event.specs.Layout.{Layout, is_layout}
 use Rattle.dm_event.specs.declared.why.LineFault.{LineFault}
 use Rattle.dm_event.specs.declared.why.LineFault.TheVariants.{Unfinished}
 use Rattle.dm_text.specs.Text.{words_of}
-use Rattle.dm_lines.specs.declared.error.HistoryError.{HistoryError}
-use Rattle.dm_lines.specs.declared.error.HistoryError.TheVariants as errors
-use Rattle.dm_lines.specs.declared.fault.LineError.{LineError}
-use Rattle.dm_lines.specs.declared.fault.LineError.TheVariants as line_errors
+use Rattle.dm_fields.specs.Fields.{Words, made, word_at}
+use Rattle.dm_fields.specs.Faults.{Faulty}
 use Rattle.dm_lines.specs.declared.file.Begun.{Begun}
 use Rattle.dm_lines.specs.declared.file.Begun.TheVariants as begun
 use Rattle.dm_lines.specs.declared.file.Schedule.{Schedule}
 use Rattle.dm_lines.specs.declared.line.Line.{Line}
-use Rattle.dm_lines.specs.Fields.{Words, made, word_at}
 use Rattle.dm_lines.specs.Ranges.{Fits}
 use Rattle.dm_lines.specs.Reading.{header_of, value_of, weighed, weights_of, line_of}
 
@@ -24,10 +21,6 @@ Told = Layout × List Line
 
 abbrev pub told : Schedule → Told
 told schedule = (schedule.schema, schedule.lines.items)
-
--- the number of the first faulty line, counted from 1, and its first fault
-abbrev pub Faulty : Type 0
-Faulty = ℕ × LineFault
 
 -- what the lines so far say
 pub data SoFar : Type 0 where
@@ -98,18 +91,3 @@ abbrev pub AllFit : SoFar → Type 0
 AllFit Nothing = Unit {0}
 AllFit (Header layout) = Unit {0}
 AllFit (Commands layout done) = IsTrue (is_layout layout) × All (λ line. Fits layout line) done
-
--- What the reader answered, seen by view, is what the file says, unless memory ran out.
-
-abbrev pub Stops : {Y : Type 0} → HistoryError → Result Y Faulty → Type 0
-Stops errors.Memory read = Unit {0}
-Stops (errors.Fault line kind) read = read ≡ Err (line, kind)
-
-abbrev pub Reads : {X Y : Type 0} → (X → Y) → Result X HistoryError → Result Y Faulty → Type 0
-Reads view (Ok x) read = read ≡ Ok (view x)
-Reads view (Err e) read = Stops e read
-
--- the error of the line with this number
-abbrev pub at_line : ℕ → LineError → HistoryError
-at_line n (line_errors.Fault kind) = errors.Fault n kind
-at_line n line_errors.Memory = errors.Memory

@@ -15,7 +15,8 @@ use Rattle.dm_event.specs.declared.why.LineFault.TheVariants.{Word, Count, Range
 use Rattle.dm_text.specs.Text.{number_of}
 use Rattle.dm_lines.specs.declared.line.Line.{Line}
 use Rattle.dm_lines.specs.declared.line.Line.TheVariants as line
-use Rattle.dm_lines.specs.Fields.{Words, ◌>>=◌, made, check, or_fault, word_at, fixed_word, unknown_at, word_count, u8_at, u16_at, u32_at, i64_at, numbers_from}
+use Rattle.dm_fields.specs.Fields.{Words, ◌>>=◌, made, check, or_fault, word_at, fixed_word, unknown_at, word_count, u8_at, u16_at, u32_at, i64_at}
+use Rattle.dm_lines.specs.Fields.{numbers_from}
 use Rattle.dm_lines.specs.Ranges.{are_keys}
 
 -- ---- the header

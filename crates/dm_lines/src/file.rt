@@ -2,17 +2,16 @@
 
 ghost use Rattle.std.specs.Prelude.{◌≡◌, ◌≤◌, ◌+◌, Ok, All, IfOk, length, IsTrue};
 ghost use Rattle.dm_event.specs.Layout.{is_layout};
-ghost use Rattle.dm_lines.specs.Fields.{Gives, spelled};
+ghost use Rattle.dm_fields.specs.Fields.{Gives, spelled};
+ghost use Rattle.dm_fields.specs.Faults.{Reads};
 ghost use Rattle.dm_lines.specs.Ranges.{Fits};
-ghost use Rattle.dm_lines.specs.File.{is_skipped, after_header, after_line, ended, schedule_of, so_far, commands, Reads, told, AllFit};
+ghost use Rattle.dm_lines.specs.File.{is_skipped, after_header, after_line, ended, schedule_of, so_far, commands, told, AllFit};
 
-use crate::error::HistoryError;
-use crate::fault::LineError;
-use crate::fields::{is, word};
 use crate::line::Line;
 use crate::opening::{Opening, header_of};
 use crate::reading::line_of;
 use dm_event::{LineFault, Schema};
+use dm_fields::{HistoryError, LineError, is, word};
 use dm_text::{lines_of, words};
 use std::alloc::Global;
 

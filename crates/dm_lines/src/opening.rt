@@ -2,16 +2,14 @@
 
 ghost use Rattle.std.specs.Prelude.{◌≡◌, ◌≤◌, ◌<◌, true, Ok, OnOk, IfOk, IsTrue, length};
 ghost use Rattle.dm_event.specs.Layout.{is_layout, is_key, fits_weights};
-ghost use Rattle.dm_lines.specs.Fields.{Gives, made, spelled};
+ghost use Rattle.dm_fields.specs.Fields.{Gives, made, spelled};
 ghost use Rattle.dm_lines.specs.Reading.{header_words, header_count, header_of, is_for_parts, opened, value_of, weights_of, valued, weighed};
 
-use crate::fault::LineError;
-use crate::fields::{
-    fixed_word, i64_at, require, sites_of, u8_at, u16_at, u32_at, word, word_count,
-};
+use crate::fields::sites_of;
 use dm_event::{
     Key, LineFault, MAX_RANGES, MAX_WEIGHT, Schema, SiteNo, Value, ValueRange, Weights,
 };
+use dm_fields::{LineError, fixed_word, i64_at, require, u8_at, u16_at, u32_at, word, word_count};
 use dm_text::number;
 use std::alloc::Global;
 use std::marker::Model;

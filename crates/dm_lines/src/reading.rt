@@ -3,16 +3,16 @@
 ghost use Rattle.std.specs.Prelude.{◌≡◌, ◌≤◌, ◌<◌, ◌+◌, [], All, IfOk, OnOk, true, length, drop};
 ghost use Rattle.std.specs.List.{list_all};
 ghost use Rattle.dm_event.specs.Layout.{is_key, key_count};
-ghost use Rattle.dm_lines.specs.Fields.{Gives, spelled};
+ghost use Rattle.dm_fields.specs.Fields.{Gives, spelled};
 ghost use Rattle.dm_lines.specs.Ranges.{Fits, IsPart, IsSession, are_keys};
 ghost use Rattle.dm_lines.specs.Reading.{declared_of, session_of, sent_count, sent_of, chosen_of, place_of, restarted_of, route_of, get_of, write_of, memory_of, fail_of, refresh_of, ask_of, part_of, doubt_of, found_of, restart_of, site_line_of, line_of};
 
-use crate::fault::LineError;
-use crate::fields::{
-    fixed_word, i64_at, is, keys_of, require, u8_at, u16_at, u32_at, unknown_at, word, word_count,
-};
+use crate::fields::keys_of;
 use crate::line::Line;
 use dm_event::{Found, Key, Keys, LineFault, MAX_KEYS, Part, Schema, Value, Want};
+use dm_fields::{
+    LineError, fixed_word, i64_at, is, require, u8_at, u16_at, u32_at, unknown_at, word, word_count,
+};
 use std::alloc::Global;
 
 #[tactic(auto, unfolding(crate::specs::Ranges::are_keys))]

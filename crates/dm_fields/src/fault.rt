@@ -1,8 +1,8 @@
 //! Why a line could not be read.
 
 ghost use Rattle.std.specs.Prelude.{◌≡◌};
-ghost use Rattle.dm_lines.specs.declared.fault.LineError.TheVariants.{Memory};
-ghost use Rattle.dm_lines.specs.File.{at_line};
+ghost use Rattle.dm_fields.specs.declared.fault.LineError.TheVariants.{Memory};
+ghost use Rattle.dm_fields.specs.Faults.{at_line};
 
 use crate::error::HistoryError;
 use dm_event::{LineFault, NoMemory};
@@ -10,14 +10,14 @@ use std::alloc::{AllocError, AllocFailed};
 
 /// Why a line could not be read: its first fault, or want of memory.
 #[derive(Clone, Copy, Debug, PartialEq, Eq)]
-pub(crate) enum LineError {
+pub enum LineError {
     Fault(LineFault),
     Memory,
 }
 
 impl LineError {
     /// The error of the line with this number.
-    pub(crate) fn at(self, line: u64) -> HistoryError
+    pub fn at(self, line: u64) -> HistoryError
         ensures { result ≡ at_line line self }
     {
         match self {

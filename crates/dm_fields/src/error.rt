@@ -1,7 +1,7 @@
 //! Why a text could not be read.
 
 ghost use Rattle.std.specs.Prelude.{◌≡◌};
-ghost use Rattle.dm_lines.specs.declared.error.HistoryError.TheVariants.{Memory};
+ghost use Rattle.dm_fields.specs.declared.error.HistoryError.TheVariants.{Memory};
 
 use dm_event::{LineFault, NoMemory};
 use std::alloc::{AllocError, AllocFailed};

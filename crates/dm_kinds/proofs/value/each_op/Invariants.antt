@@ -1,0 +1,6 @@
+use Rattle.std.proofs.Common.{◌≡◌, drop, map, []}
+use Rattle.dm_kinds.specs.Values.{items_from, op_of}
+use Rattle.dm_kinds.proofs.value.each_op.Given as goal
+
+abbrev pub invariant-loop-piece : goal.invariant-loop-piece
+invariant-loop-piece l = items_from op_of l.ops.items (map (λ w. w.now) (drop l.piece-index l.pieces)) ≡ items_from op_of [] (map (λ w. w.now) l.pieces)

@@ -1,0 +1,14 @@
+pub mod Pieces
+pub mod Lines
+pub mod Texts
+pub mod Spaced
+pub mod VectorWords
+pub mod Places
+pub mod StepWords
+pub mod Tells
+pub mod TellsMore
+pub mod Printed
+pub mod Inked
+pub mod Again
+pub mod AgainMore
+pub mod Reread
