@@ -1,43 +1,45 @@
--- The steps that were added, and those that are left.
-use Rattle.std.proofs.Common.{◌≡◌, ◌∙◌, ap, sym, List, [], ◌∷◌, ◌++◌, append_assoc, subst, Some, None}
-use Rattle.std.proofs.lemmas.List.{reverse-append, append-nil}
+-- One step more.
+use Rattle.std.proofs.Common.{◌≡◌, ◌∙◌, ap, sym, List, [], ◌∷◌, ◌++◌, append_assoc, subst, Option, Some, None}
+use Rattle.std.proofs.lemmas.List.{reverse-append}
 use Rattle.std.proofs.lemmas.Option.{none-some}
 use Rattle.dm_event.specs.Layout.{Layout}
 use Rattle.dm_event.specs.declared.step.Step.{Step}
 use Rattle.dm_event.specs.declared.why.Why.{Why}
 use Rattle.dm_model.specs.Legal.{Legal, LegalPast}
 use Rattle.dm_model.proofs.Histories.{legal_push, legal_prefix}
-use Rattle.dm_check.specs.Judged.{added, refused_next, IsWhole, IsRefusedNext}
+use Rattle.dm_check.specs.Judged.{added, refused_next, IsWhole, IsRefusedNext, IsFound}
 
-module _ (layout : Layout) (before left rest all : List Step) (step : Step) (taken : left ≡ step ∷ rest) (whole : before ++ left ≡ all) (legal : Legal layout before)
+module _ (layout : Layout) (steps before : List Step) (step : Step)
   where
-    stands : before ++ step ∷ rest ≡ all
-    stands = sym (ap (λ (l : List Step). before ++ l) taken) ∙ whole
-
-    -- it is added
-    pub added_whole : (after : List Step) → after ≡ added None before step → after ++ rest ≡ all
-    added_whole after is = ap (λ (l : List Step). l ++ rest) is ∙ append_assoc before (step ∷ []) rest ∙ stands
-
-    pub added_legal : (after : List Step) → after ≡ added None before step → None ≡ refused_next layout before step → Legal layout after
+    -- it is added to those that are all legal, or refused behind them
+    pub found_next : (refused : Option Why) (after : List Step) → IsWhole layout steps before → refused ≡ refused_next layout before step
+        → after ≡ added refused before step → IsFound layout (steps ++ step ∷ []) refused after
     unfolding refused_next
-    added_legal after is none = subst (λ (l : List Step). Legal layout l) (sym is) (legal_push layout before step legal (sym none))
+    found_next None after whole next is =
+        let all : after ≡ steps ++ step ∷ [] = is ∙ ap (λ (l : List Step). l ++ step ∷ []) whole.all in
+        record {
+          all = all;
+          legal = subst (λ (l : List Step). Legal layout l) (sym is ∙ all)
+              (legal_push layout before step (subst (λ (l : List Step). Legal layout l) (sym whole.all) whole.legal) (sym next));
+        }
+    found_next (Some why) after whole next is =
+        subst (λ (l : List Step). IsRefusedNext layout (steps ++ step ∷ []) why l) (sym is) (record {
+          step = step;
+          rest = [];
+          stands = ap (λ (l : List Step). l ++ step ∷ []) (sym whole.all);
+          legal = subst (λ (l : List Step). Legal layout l) (sym whole.all) whole.legal;
+          refused = sym next;
+        })
 
-    -- it is refused
-    pub refused_here : (why : Why) (after : List Step) → after ≡ added (Some why) before step → Some why ≡ refused_next layout before step
-        → IsRefusedNext layout all why after
-    refused_here why after is refused = subst (λ (l : List Step). IsRefusedNext layout all why l) (sym is) (record {
-      step = step;
-      rest = rest;
-      stands = sym stands;
-      legal = legal;
-      refused = sym refused;
-    })
-
--- nothing is left
-pub nothing_left : (layout : Layout) (before left all : List Step) → left ≡ [] → before ++ left ≡ all → Legal layout before → IsWhole layout all before
-nothing_left layout before left all none whole legal =
-    let is = sym (append-nil before) ∙ sym (ap (λ (l : List Step). before ++ l) none) ∙ whole in
-    record { all = is; legal = subst (λ (l : List Step). Legal layout l) is legal }
+    -- an earlier one was refused
+    pub found_before : (why : Why) → IsRefusedNext layout steps why before → IsRefusedNext layout (steps ++ step ∷ []) why before
+    found_before why next = record {
+      step = next.step;
+      rest = next.rest ++ step ∷ [];
+      stands = ap (λ (l : List Step). l ++ step ∷ []) next.stands ∙ append_assoc before (next.step ∷ next.rest) (step ∷ []);
+      legal = next.legal;
+      refused = next.refused;
+    }
 
 -- a list of which a step is refused behind those before it isn't legal
 pub not_legal : (layout : Layout) (all : List Step) (why : Why) (before : List Step) → IsRefusedNext layout all why before → Legal layout all → ⊥
@@ -47,14 +49,3 @@ not_legal layout all why before next legal =
     (subst (λ (l : List Step). Legal layout l) (next.stands ∙ sym (append_assoc before (next.step ∷ []) next.rest)) legal) in
     let past = subst (λ (l : List Step). LegalPast layout l) (reverse-append before (next.step ∷ [])) front in
     none-some why (sym past.1 ∙ next.refused)
-
--- where there were no steps before
-pub from_none : (layout given : Layout) (front steps : List Step) (why : Why) (after : List Step) → layout ≡ given → front ≡ []
-    → IsRefusedNext layout (front ++ steps) why after → IsRefusedNext given steps why after
-from_none layout given front steps why after same none next =
-    subst (λ (l : Layout). IsRefusedNext l steps why after) same (subst (λ (l : List Step). IsRefusedNext layout (l ++ steps) why after) none next)
-
-pub whole_from_none : (layout given : Layout) (front steps all : List Step) → layout ≡ given → front ≡ [] → IsWhole layout (front ++ steps) all
-    → IsWhole given steps all
-whole_from_none layout given front steps all same none whole =
-    subst (λ (l : Layout). IsWhole l steps all) same (subst (λ (l : List Step). IsWhole layout (l ++ steps) all) none whole)

@@ -52,3 +52,17 @@ pub record IsRefusedNext (layout : Layout) (steps : List Step) (why : Why) (befo
 pub record IsFirstRefused (layout : Layout) (steps : List Step) (place : ℕ) (why : Why) (before : List Step) : Type 0 where
   pub next : IsRefusedNext layout steps why before
   pub counted : place ≡ length before + 1
+
+-- what a judge has: the book of the steps before the first that may not stand, or of all, and why that one is refused
+pub record Judging : Type 0 where
+  pub book : Ledger
+  pub refused : Option Why
+
+-- the steps are all in the book, or the first that may not stand is refused for this reason
+abbrev pub IsFound : Layout → List Step → Option Why → List Step → Type 0
+IsFound layout steps None book = IsWhole layout steps book
+IsFound layout steps (Some why) book = IsRefusedNext layout steps why book
+
+-- it has judged these steps
+abbrev pub HasJudged : List Step → Judging → Type 0
+HasJudged steps judge = IsFound judge.book.layout steps judge.refused judge.book.steps

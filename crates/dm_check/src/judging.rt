@@ -1,12 +1,14 @@
 //! A list of steps, judged one step at a time.
 
-ghost use Rattle.std.specs.Prelude.{◌≡◌, ◌↔◌, ◌++◌, None, IfOk, IfSome};
+ghost use Rattle.std.specs.Prelude.{◌≡◌, ◌↔◌, List, [], ◌∷◌, ◌++◌, IfOk, OnOk};
+ghost use Rattle.dm_event.specs.declared.step.Step.{Step};
 ghost use Rattle.dm_model.specs.Legal.{Legal};
-ghost use Rattle.dm_check.specs.Judged.{IsYes, IfYes, IfNo, book_of, refused_next, added, IsWhole, IsRefusedNext, IsFirstRefused};
+ghost use Rattle.dm_check.specs.Judged.{IsYes, IfYes, IfNo, HasJudged, book_of, refused_next, added, IsFirstRefused};
 
 use dm_core::Book;
 use dm_event::{MAX_SESSIONS, NoMemory, Schema, Step, Why};
 use std::alloc::Global;
+use std::marker::Model;
 
 /// What was found of a list of steps.
 #[derive(Drop)]
@@ -22,7 +24,7 @@ pub enum Checked {
 fn add(book: &mut Book, step: Step) -> Result<Option<Why>, NoMemory>
     ensures refused { IfOk result (λ refused. refused ≡ refused_next book.old.layout book.old.steps step) }
     ensures steps { IfOk result (λ refused. book.new.steps ≡ added refused book.old.steps step) }
-    ensures schema { IfOk result (λ refused. book.new.layout ≡ book.old.layout) }
+    ensures schema { book.new.layout ≡ book.old.layout }
 {
     match book.enabled(&step) {
         Ok(()) => {
@@ -34,39 +36,78 @@ fn add(book: &mut Book, step: Step) -> Result<Option<Why>, NoMemory>
     }
 }
 
-/// Adds the steps, up to the first that may not stand, of which it tells why.
-fn add_all(book: &mut Book, steps: Vec<Step>) -> Result<Option<Why>, NoMemory>
-    requires legal { Legal book.old.layout book.old.steps }
-    ensures all { IfOk result (λ refused. refused ≡ None → IsWhole book.old.layout (book.old.steps ++ steps.items) book.new.steps) }
-    ensures first { IfOk result (λ refused. IfSome refused (λ why. IsRefusedNext book.old.layout (book.old.steps ++ steps.items) why book.new.steps)) }
-    ensures schema { IfOk result (λ refused. book.new.layout ≡ book.old.layout) }
-{
-    for step in steps {
-        if let Some(why) = add(book, step)? {
-            return Ok(Some(why));
-        }
-    }
-    Ok(None)
+/// Judges steps as they come, each by those before it, up to the first that may not stand. It holds the steps before that one, and
+/// no later one.
+#[derive(Drop)]
+pub struct Judge {
+    book: Book,
+    /// Why the first step that may not stand is refused, where one was.
+    refused: Option<Why>,
 }
 
-/// Judges each step by those before it, up to the first that may not stand. A step costs the same however long the list is, but for those
-/// of which `Book` says otherwise.
+impl Model for Judge {
+    ghost use Rattle.dm_check.specs.Judged.{Judging};
+
+    ghost Value = { Judging };
+
+    ghost view = { λ j. record { book = j.book; refused = j.refused } };
+}
+
+impl Judge {
+    /// It has judged no step.
+    pub fn new(alloc: Global, schema: &Schema) -> Result<Judge, NoMemory>
+        ensures none { IfOk result (λ judge. HasJudged [] judge) }
+        ensures schema { IfOk result (λ judge. judge.book.layout ≡ schema.now) }
+    {
+        Ok(Judge {
+            book: Book::new(alloc, schema, &[0; MAX_SESSIONS as usize])?,
+            refused: None,
+        })
+    }
+
+    /// Judges the next step. A step costs the same however many came before it, but for those of which `Book` says otherwise.
+    pub fn add(&mut self, step: Step) -> Result<(), NoMemory>
+        ensures step { OnOk result ((steps : List Step) → HasJudged steps self.old → HasJudged (steps ++ step ∷ []) self.new) }
+        ensures schema { self.new.book.layout ≡ self.old.book.layout }
+    {
+        if self.refused.is_none() {
+            self.refused = add(&mut self.book, step)?;
+        }
+        Ok(())
+    }
+
+    /// What was found of the steps.
+    pub fn into_checked(self) -> Checked
+        ensures yes { (steps : List Step) → HasJudged steps self → IsYes result ↔ Legal self.book.layout steps }
+        ensures whole { (steps : List Step) → HasJudged steps self → IfYes result (λ book. book.steps ≡ steps) }
+        ensures first { (steps : List Step) → HasJudged steps self → IfNo result (λ place why legal. IsFirstRefused self.book.layout steps place why legal.steps) }
+        ensures schema { (book_of result).layout ≡ self.book.layout }
+    {
+        let Judge { book, refused } = self;
+        match refused {
+            None => Checked::Yes(book),
+            Some(why) => {
+                let step = book.steps().len() as u64 + 1;
+                Checked::No {
+                    step,
+                    why,
+                    legal: book,
+                }
+            }
+        }
+    }
+}
+
+/// Judges each step by those before it.
 pub fn check(alloc: Global, schema: &Schema, steps: Vec<Step>) -> Result<Checked, NoMemory>
     ensures yes { IfOk result (λ checked. IsYes checked ↔ Legal schema.now steps.items) }
     ensures whole { IfOk result (λ checked. IfYes checked (λ book. book.steps ≡ steps.items)) }
     ensures first { IfOk result (λ checked. IfNo checked (λ place why legal. IsFirstRefused schema.now steps.items place why legal.steps)) }
     ensures schema { IfOk result (λ checked. (book_of checked).layout ≡ schema.now) }
 {
-    let mut book = Book::new(alloc, schema, &[0; MAX_SESSIONS as usize])?;
-    match add_all(&mut book, steps)? {
-        None => Ok(Checked::Yes(book)),
-        Some(why) => {
-            let step = book.steps().len() as u64 + 1;
-            Ok(Checked::No {
-                step,
-                why,
-                legal: book,
-            })
-        }
+    let mut judge = Judge::new(alloc, schema)?;
+    for step in steps {
+        judge.add(step)?;
     }
+    Ok(judge.into_checked())
 }

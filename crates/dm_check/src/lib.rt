@@ -5,4 +5,4 @@ mod judging;
 #[cfg(test)]
 mod tests;
 
-pub use judging::{Checked, check};
+pub use judging::{Checked, Judge, check};

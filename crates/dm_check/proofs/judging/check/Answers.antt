@@ -1,37 +1,34 @@
-use Rattle.std.proofs.Common.{ap, subst, ◌+◌, ◌++◌, length, List, Option}
-use Rattle.std.specs.Prelude.{IfSome}
+use Rattle.std.proofs.Common.{◌∙◌, ap, sym, subst, ◌++◌, [], ◌∷◌, List}
+use Rattle.std.proofs.lemmas.List.{append-nil, nil_from_length, append_assoc}
+use Rattle.dm_event.specs.Layout.{Layout}
 use Rattle.dm_event.specs.declared.step.Step.{Step}
-use Rattle.dm_event.specs.declared.why.Why.{Why}
-use Rattle.dm_check.specs.Judged.{IsRefusedNext, IsWhole}
-use Rattle.dm_check.proofs.Steps.{not_legal, from_none, whole_from_none}
+use Rattle.dm_check.specs.Judged.{IfNo, IsFirstRefused, HasJudged}
 use Rattle.dm_check.proofs.judging.check.Goals as goal
-use Rattle.dm_check.proofs.judging.check.Goals.{After-steps, In-None}
+use Rattle.dm_check.proofs.judging.check.Goals.{After-into_checked}
 
--- the first of the given steps that is refused
-refused : (c : After-steps) → IsRefusedNext c.args.schema.now c.args.steps.items c.in-Some.why c.add_all.new.book.steps
-refused c =
-    let book = c.in_ok-book.book in
-    from_none book.layout c.args.schema.now book.steps c.args.steps.items c.in-Some.why c.add_all.new.book.steps c.in_ok-book.ensures.schema
-    c.in_ok-book.ensures.empty
-    (subst (λ (r : Option Why). IfSome r (λ why. IsRefusedNext book.layout (book.steps ++ c.args.steps.items) why c.add_all.new.book.steps)) c.in-Some.is
-    c.in_ok-add_all.ensures.first)
+pub loop-step-preserved : goal.loop-step-preserved
+loop-step-preserved c =
+    let (before, whole, judged) = c.loop-step.invariant.judged in
+    let taken = c.in-Some.ensures.steps.0 in
+    record {
+      judged = (
+        before ++ c.in-Some.step ∷ [],
+        append_assoc before (c.in-Some.step ∷ []) c.next.new.self.rest.items ∙ ap (λ (l : List Step). before ++ l) (sym taken) ∙ whole,
+        c.in_ok-add.ensures.step before judged,
+      );
+      schema = c.add.ensures.schema ∙ c.loop-step.invariant.schema;
+    }
 
-pub returns-in-Some-clause-yes : goal.returns-in-Some-clause-yes
-returns-in-Some-clause-yes c =
-    (λ no. elim no [ ], not_legal c.args.schema.now c.args.steps.items c.in-Some.why c.add_all.new.book.steps (refused c))
+all_judged : (c : After-into_checked) → HasJudged c.args.steps.items c.loop-step.judge
+all_judged c =
+    let (before, whole, judged) = c.loop-step.invariant.judged in
+    let none = nil_from_length _ (sym c.loop-step.step-iterator.rest.ok.0 ∙ c.in-None.ensures.steps.0) in
+    subst (λ (l : List Step). HasJudged l c.loop-step.judge) (sym (append-nil before) ∙ sym (ap (λ (l : List Step). before ++ l) none) ∙ whole) judged
 
-pub returns-in-Some-clause-first : goal.returns-in-Some-clause-first
-returns-in-Some-clause-first c = record { next = refused c; counted = ap (λ (l : List Step). length l + 1) c.steps.ensures.same }
+pub returns-clause-whole : goal.returns-clause-whole
+returns-clause-whole c = c.into_checked.ensures.whole c.args.steps.items (all_judged c)
 
--- none of the given steps is refused
-whole : (c : In-None) → IsWhole c.args.schema.now c.args.steps.items c.add_all.new.book.steps
-whole c =
-    let book = c.in_ok-book.book in
-    whole_from_none book.layout c.args.schema.now book.steps c.args.steps.items c.add_all.new.book.steps c.in_ok-book.ensures.schema
-    c.in_ok-book.ensures.empty (c.in_ok-add_all.ensures.all c.in-None.is)
-
-pub returns-in-None-clause-yes : goal.returns-in-None-clause-yes
-returns-in-None-clause-yes c = (λ _. (whole c).legal, λ _. tt)
-
-pub returns-in-None-clause-whole : goal.returns-in-None-clause-whole
-returns-in-None-clause-whole c = (whole c).all
+pub returns-clause-first : goal.returns-clause-first
+returns-clause-first c =
+    subst (λ (layout : Layout). IfNo c.into_checked.result (λ place why legal. IsFirstRefused layout c.args.steps.items place why legal.steps))
+    c.loop-step.invariant.schema (c.into_checked.ensures.first c.args.steps.items (all_judged c))
