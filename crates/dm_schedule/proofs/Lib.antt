@@ -5,3 +5,4 @@ pub mod Shapes
 pub mod LastBegins
 pub mod BodiesKept
 pub mod DriversKept
+pub mod LinesOf

@@ -5,7 +5,7 @@ ghost use Rattle.dm_lines.specs.Ranges.{Fits};
 ghost use Rattle.dm_schedule.specs.Drive.{by_line, answer_of, driven, drive_of, answers_of};
 ghost use Rattle.dm_text.specs.Text.{Appends};
 
-use crate::answer::{Answer, put_answer, put_refused};
+use crate::answer::{Answer, put_answer};
 use crate::driver::Driver;
 use crate::due::site_due;
 use crate::sessions::{begin, commit, fail, get, reply, route, write};
@@ -85,7 +85,7 @@ fn answer(
 {
     match take(driver, alloc, line)? {
         // The prover has to be told of the type of `why` wherever an answer is held.
-        Answer::Refused(why) => put_refused(alloc, out, &why),
+        Answer::Refused(why) => put_answer(alloc, out, driver.book(), Answer::Refused(why)),
         answer => put_answer(alloc, out, driver.book(), answer),
     }
 }
