@@ -1,4 +1,4 @@
-//! A name in a schema file.
+//! Names that a message tells.
 
 ghost use Rattle.std.specs.Prelude.{◌≡◌, IfOk};
 
@@ -6,7 +6,7 @@ use dm_event::NoMemory;
 use std::alloc::Global;
 use std::marker::Model;
 
-/// A name at the top of a schema file.
+/// A name at the top of a schema file, or the name of a file.
 #[derive(Debug, Drop)]
 pub struct Name {
     text: String,
@@ -22,7 +22,7 @@ impl Model for Name {
 
 impl Name {
     /// A copy of the text.
-    pub(crate) fn new(alloc: Global, text: &str) -> Result<Name, NoMemory>
+    pub fn new(alloc: Global, text: &str) -> Result<Name, NoMemory>
         ensures { IfOk result (λ name. name ≡ text.now) }
     {
         let text = String::from_str(alloc, text)?;

@@ -1,3 +1,4 @@
-pub mod Answers
-pub mod Driven
-pub mod Pairs
+pub mod Due
+pub mod Lists
+pub mod Runs
+pub mod Verdicts

@@ -1,10 +1,12 @@
 //! How a command ended.
 
-ghost use Rattle.std.specs.Prelude.{◌≡◌, Some, IfOk, string_bytes};
-ghost use Rattle.dm_top.specs.Texts.{fault_text, limit_text, status_text};
+ghost use Rattle.std.specs.Prelude.{◌≡◌, Some, IfOk};
+ghost use Rattle.dm_top.specs.Texts.{status_text};
 
-use crate::name::Name;
-use dm_event::{LineFault, NoMemory};
+use crate::texts::{FaultText, FlawText, LimitText};
+use dm_event::{LineFault, NoMemory, Why};
+use dm_history::WhyText;
+use dm_schema::{Name, SchemaFlaw};
 use std::alloc::Global;
 use std::fmt;
 
@@ -18,46 +20,18 @@ pub enum Status {
     Absent { name: Name },
     /// The file has more bytes than the limit.
     TooLong { name: Name, limit: u64 },
-    /// The first faulty line of the step file, with its first fault. Lines count from 1.
+    /// The first thing that is wrong with the schema file.
+    SchemaFault { flaw: SchemaFlaw },
+    /// The first faulty line of the step file or of the history, with its first fault. Lines count from 1.
     StepFault { line: u64, kind: LineFault },
-    /// The file could not be read.
+    /// The first step of the history that may not stand, counted from 1, and the first rule that it breaks.
+    CheckedNo { step: u64, why: Why },
+    /// A file could not be read.
     ReadFault,
     /// The text could not be written whole.
     WriteFault,
     /// There was no memory.
     Memory,
-}
-
-#[derive(Drop)]
-struct FaultText(LineFault);
-
-impl fmt::Display for FaultText {
-    ghost output = { λ f. Some (fault_text f.0) };
-
-    #[tactic(auto, unfolding(crate::specs::Texts::fault_text))]
-    fn fmt<W: fmt::Write>(&self, f: &mut fmt::Formatter<W>) -> fmt::Result {
-        match self.0 {
-            LineFault::Word => write!(f, "word"),
-            LineFault::Count => write!(f, "count"),
-            LineFault::Number => write!(f, "number"),
-            LineFault::Range => write!(f, "range"),
-            LineFault::Repeat => write!(f, "repeat"),
-            LineFault::Unfinished => write!(f, "unfinished"),
-        }
-    }
-}
-
-#[derive(Drop)]
-struct LimitText(u64);
-
-impl fmt::Display for LimitText {
-    ghost output = { λ l. Some (limit_text l.0) };
-
-    #[tactic(auto, unfolding(crate::specs::Texts::limit_text))]
-    fn fmt<W: fmt::Write>(&self, f: &mut fmt::Formatter<W>) -> fmt::Result {
-        let limit = self.0;
-        write!(f, ": longer than {limit} bytes")
-    }
 }
 
 #[derive(Drop)]
@@ -80,9 +54,17 @@ impl fmt::Display for StatusText<'_> {
                 let over = LimitText(*limit);
                 write!(f, "{name}{over}")
             }
+            Status::SchemaFault { flaw } => {
+                let flaw = FlawText(flaw);
+                write!(f, "schema: {flaw}")
+            }
             Status::StepFault { line, kind } => {
                 let kind = FaultText(*kind);
                 write!(f, "line {line}: {kind}")
+            }
+            Status::CheckedNo { step, why } => {
+                let why = WhyText(why);
+                write!(f, "step {step}: {why}")
             }
             Status::ReadFault => write!(f, "read fault"),
             Status::WriteFault => write!(f, "write fault"),

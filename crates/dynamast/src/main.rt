@@ -1,4 +1,4 @@
-//! The program: `dynamast step FILE`.
+//! The program: `dynamast step FILE` and `dynamast check SCHEMA FILE`.
 #![tactic(auto)]
 
 use dm_disk::{FileSource, StdoutSink};
@@ -22,11 +22,15 @@ fn words_of(rt: &(impl Env + AllocGlobal), alloc: Global) -> io::Result<Vec<Stri
 fn number(status: &Status) -> u8 {
     match status {
         Status::Done => 0,
-        Status::Absent { .. } | Status::TooLong { .. } | Status::StepFault { .. } => 1,
+        Status::Absent { .. }
+        | Status::TooLong { .. }
+        | Status::SchemaFault { .. }
+        | Status::StepFault { .. } => 1,
         Status::BadWords => 2,
         Status::Memory => 3,
         Status::ReadFault => 4,
         Status::WriteFault => 5,
+        Status::CheckedNo { .. } => 7,
     }
 }
 

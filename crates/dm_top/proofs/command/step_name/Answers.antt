@@ -2,7 +2,7 @@ use Rattle.std.proofs.Common.{rules, arith, ◌≡◌, ◌∙◌, ap, map, List,
 use Rattle.std.specs.Prelude.{string_bytes}
 use Rattle.std.specs.declared.string.String.{String}
 use Rattle.std.specs.declared.alloc.Global.{Global}
-use Rattle.dm_top.proofs.Pairs.{both_of}
+use Rattle.dm_top.proofs.Lists.{both_of}
 use Rattle.dm_top.proofs.command.step_name.Goals as goal
 
 pub returns-then-eq-clause-found : goal.returns-then-eq-clause-found

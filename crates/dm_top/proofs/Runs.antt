@@ -1,5 +1,5 @@
--- A history that a book holds and that lines drive.
-use Rattle.std.proofs.Common.{◌≡◌, ◌∙◌, ℕ, List, [], ◌++◌, subst, refl}
+-- A history that a book holds.
+use Rattle.std.proofs.Common.{◌≡◌, ℕ, List, [], ◌++◌, subst, refl}
 use Rattle.dm_event.specs.Layout.{Layout}
 use Rattle.dm_event.specs.declared.step.Step.{Step}
 use Rattle.dm_model.specs.Legal.{Legal}
@@ -10,12 +10,12 @@ use Rattle.dm_model.specs.Snapshot.{Snapshot}
 use Rattle.dm_lines.specs.declared.line.Line.{Line}
 use Rattle.dm_report.specs.Rest.{rest_text}
 use Rattle.dm_schedule.specs.Drive.{drive_of, answers_of}
-use Rattle.dm_top.specs.Command.{IsDriven, output_of}
+use Rattle.dm_top.specs.Ends.{IsHistory}
+use Rattle.dm_top.specs.Step.{output_of}
 
-pub driven_of : {a b : Layout} (lines : List Line) {history steps : List Step} → a ≡ b → steps ≡ (drive_of b lines).history → history ≡ steps → Legal a history
-    → Snapshot a history → Ordered history → SessionUp a history → OneMaster a history → IsDriven b lines history
-driven_of lines {history} e driven same legal snapshot ordered session_up one_master = record {
-  driven = same ∙ driven;
+pub history_is : {a b : Layout} {history : List Step} → a ≡ b → Legal a history → Snapshot a history → Ordered history → SessionUp a history
+    → OneMaster a history → IsHistory b history
+history_is {a} {b} {history} e legal snapshot ordered session_up one_master = record {
   legal = subst (λ (x : Layout). Legal x history) e legal;
   snapshot = subst (λ (x : Layout). Snapshot x history) e snapshot;
   ordered = ordered;

@@ -1,21 +1,22 @@
 use Rattle.std.proofs.Common.{◌≡◌, ◌∙◌, ap, List, Ok, ℕ, take, refl, inr}
 use Rattle.dm_disk.specs.Putting.{appended}
 use Rattle.dm_lines.specs.File.{schedule_of}
-use Rattle.dm_top.specs.Command.{IsDriven, IsRun, output_of}
-use Rattle.dm_top.proofs.Driven.{driven_of, text_of}
-use Rattle.dm_top.proofs.command.step.Goals as goal
-use Rattle.dm_top.proofs.command.step.Goals.{in-Err-whole, in-Ok-whole+in-Whole, in-Ok-whole+in-Fault}
+use Rattle.dm_top.specs.Step.{IsRun, output_of}
+use Rattle.dm_top.proofs.Runs.{history_is, text_of}
+use Rattle.dm_top.proofs.stepping.drive_lines.Goals as goal
+use Rattle.dm_top.proofs.stepping.drive_lines.Goals.{in-Err-whole, in-Ok-whole+in-Whole, in-Ok-whole+in-Fault}
 
 pub returns : goal.returns
 returns g c =
     let layout = c.in-Ok.schedule.schema in
     let lines = c.in-Ok.schedule.lines.items in
     let said : schedule_of c.args.bytes.now ≡ Ok (layout, lines) = c.in-Ok.ensures.exact in
-    let driven : IsDriven layout lines c.into_steps-history.result.items =
-    driven_of lines c.in-Ok-drive.ensures.layout c.in-Ok-drive.ensures.history c.into_steps-history.ensures.same c.into_steps-history.ensures.legal
-    c.into_steps-history.ensures.snapshot c.into_steps-history.ensures.ordered c.into_steps-history.ensures.session_up
-    c.into_steps-history.ensures.one_master in
-    let run : IsRun c.args.bytes.now layout lines c.into_steps-history.result.items = record { schedule = said; driven = driven } in
+    let same = c.into_steps-history.ensures in
+    let run : IsRun c.args.bytes.now layout lines c.into_steps-history.result.items = record {
+      schedule = said;
+      driven = same.same ∙ c.in-Ok-drive.ensures.history;
+      is = history_is c.in-Ok-drive.ensures.layout same.legal same.snapshot same.ordered same.session_up same.one_master;
+    } in
     elim c.match-whole.branch [
       | in-Err-whole w ↦ rw (w.status-is, w.sink-is) (inr (layout, lines, run), refl)
       | in-Ok-whole+in-Whole w ↦
@@ -32,7 +33,10 @@ returns g c =
             layout,
             lines,
             run,
-            (n, part ∙ ap (λ (text : List ℕ). appended (g.W.Sink.written c.args.sink.now) (take n text)) text),
-            w.write_all.ensures.cause w.in-Fault.is,
+            record {
+              count = n;
+              part = part ∙ ap (λ (text : List ℕ). appended (g.W.Sink.written c.args.sink.now) (take n text)) text;
+              fault = w.write_all.ensures.cause w.in-Fault.is;
+            },
           )
     ]
