@@ -1,0 +1,5 @@
+pub mod Growing
+pub mod Others
+pub mod Once
+pub mod Runs
+pub mod Logs
