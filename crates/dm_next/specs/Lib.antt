@@ -1,0 +1,4 @@
+pub mod Running
+pub mod Routed
+pub mod Counted
+pub mod Restarts
