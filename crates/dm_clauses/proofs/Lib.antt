@@ -1,5 +1,5 @@
 pub mod Ascending
-pub mod Elsewhere
+pub mod KeysAway
 pub mod Epochs
 pub mod Homes
 pub mod Settled

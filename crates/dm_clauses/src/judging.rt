@@ -100,8 +100,8 @@ fn away<T: Told>(told: &T, site: SiteNo, key: Key) -> Option<Part>
     }
 }
 
-/// The least of the keys' partitions on which the site may not begin.
-fn elsewhere<T: Told>(told: &T, site: SiteNo, keys: &[Key]) -> Option<Part>
+/// The first of the keys' partitions, in the order of the keys, on which the site may not begin.
+pub fn elsewhere<T: Told>(told: &T, site: SiteNo, keys: &[Key]) -> Option<Part>
     requires { list_all (is_key (T.layout told.now)) keys.now ≡ true }
     ensures { result ≡ elsewhere (T.layout told.now) (T.past told.now) site keys.now }
 {
@@ -195,7 +195,7 @@ fn end_why<T: Told>(told: &T, site: SiteNo, txn: TxnId, ops: &[Op], reads: &[Pai
 }
 
 /// The entry of the origin that the site would take over next.
-fn next_entry<T: Told>(told: &T, site: SiteNo, origin: SiteNo) -> Option<&Entry>
+pub fn next_entry<T: Told>(told: &T, site: SiteNo, origin: SiteNo) -> Option<&Entry>
     requires { is_site (T.layout told.now) origin ≡ true }
     ensures { option_copied result ≡ next_entry (T.layout told.now) (T.past told.now) site origin }
 {

@@ -9,5 +9,5 @@ mod rows;
 mod shape;
 
 pub use choosing::{choice_due, parts_of};
-pub use judging::{next_refresh, refusal};
+pub use judging::{elsewhere, next_entry, next_refresh, refusal};
 pub use shape::is_shaped;

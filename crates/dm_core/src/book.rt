@@ -1,12 +1,13 @@
 //! The history so far, and what it says.
 
-ghost use Rattle.std.specs.List.{list_all};
-ghost use Rattle.std.specs.Prelude.{ℕ, ◌≡◌, ◌<◌, ◌≤◌, ◌^◌, ◌↔◌, ◌++◌, ◌∷◌, [], true, false, None, Some, length, IfOk, IfSome, IsNone, OnOk, OnErr, MatchResult, option_copied, reverse, take};
+ghost use Rattle.std.specs.List.{AllByRecursion, list_all};
+ghost use Rattle.std.specs.Prelude.{ℕ, ◌≡◌, ◌<◌, ◌≤◌, ◌^◌, ◌↔◌, ◌++◌, ◌∷◌, [], true, false, None, Some, length, IfOk, IfSome, IsNone, OnOk, OnErr, MatchResult, option_copied, option_map, reverse, take};
 ghost use Rattle.dm_event.specs.Layout.{is_key, is_site};
 ghost use Rattle.dm_core.specs.Ledger.{past};
+ghost use Rattle.dm_frames.specs.Records.{frames_of, pending_record, records_of};
 ghost use Rattle.dm_model.specs.Acts.{entry_at};
 ghost use Rattle.dm_kept.specs.Roomy.{HasRoom};
-ghost use Rattle.dm_model.specs.Allowed.{Allowed, next_refresh, refusal, runner, with_kept};
+ghost use Rattle.dm_model.specs.Allowed.{Allowed, elsewhere, next_entry, next_refresh, refusal, runner, with_kept};
 ghost use Rattle.dm_model.specs.Attempts.{attempt, declared, replies, routes, wanted_keys, wants_txn};
 ghost use Rattle.dm_model.specs.Choices.{choice_due};
 ghost use Rattle.dm_model.specs.Doubts.{is_down, pending_at};
@@ -22,6 +23,7 @@ ghost use Rattle.dm_model.specs.SessionUp.{SessionUp};
 ghost use Rattle.dm_model.specs.Sessions.{session_vector};
 ghost use Rattle.dm_model.specs.Snapshot.{Snapshot};
 ghost use Rattle.dm_model.specs.Values.{value};
+ghost use Rattle.dm_record.specs.Bytes.{HasRanges, IsInRange, frame_of};
 ghost use Rattle.dm_room.specs.Room.{need};
 ghost use Rattle.dm_store.specs.Histories.{committed_inside};
 ghost use Rattle.dm_told.specs.Asking.{is_current};
@@ -35,6 +37,7 @@ use dm_event::{
 };
 use dm_kept::Kept;
 use dm_model::refreshes_reach_full;
+use dm_record::Frame;
 use dm_store::Past;
 use dm_told::{Told, stands_routed};
 use std::alloc::Global;
@@ -255,6 +258,41 @@ impl Book {
         self.kept.pending(site)
     }
 
+    /// The numbers of the records that it has of the site, and of the one in doubt there, are in range.
+    fn keeps_ranges(&self, site: SiteNo)
+        ensures acts { AllByRecursion IsInRange (records_of site (past self.now)) }
+        ensures pending { IfSome (pending_at site (past self.now)) (λ p. IsInRange (pending_record p)) }
+    {
+        self.kept.is_legal();
+        // The schema brings in its limits.
+        let schema = self.kept.schema();
+        let _sites = schema.sites();
+        let _parts = schema.parts();
+        let _width = schema.width();
+    }
+
+    /// The frames of the records of the site's acts, in the order of the steps. All steps are looked at, and
+    /// for each Restart that kept a step once more those before it.
+    pub fn frames(&self, alloc: Global, site: SiteNo) -> Result<Vec<Frame>, NoMemory>
+        ensures exact { IfOk result (λ frames. frames.items ≡ frames_of site (past self.now)) }
+        ensures ranges { OnOk result (AllByRecursion HasRanges (records_of site (past self.now))) }
+    {
+        self.keeps_ranges(site);
+        dm_frames::frames(alloc, self.kept.steps(), site)
+    }
+
+    /// The frame of the record that the pending step of the site's last doubt would have, if there is one.
+    pub fn pending_frame(&self, alloc: Global, site: SiteNo) -> Result<Option<Frame>, NoMemory>
+        ensures exact { IfOk result (λ frame. frame ≡ option_map (λ p. frame_of (pending_record p)) (pending_at site (past self.now))) }
+        ensures ranges { OnOk result (IfSome (pending_at site (past self.now)) (λ p. HasRanges (pending_record p))) }
+    {
+        self.keeps_ranges(site);
+        match self.kept.pending(site) {
+            Some(pending) => Ok(Some(dm_frames::pending_frame(alloc, pending)?)),
+            None => Ok(None),
+        }
+    }
+
     /// The site's floor as it is after a Restart that finds its log so: a kept pending step counts.
     pub fn floor_with_kept(&self, site: SiteNo, found: Found) -> Vector
         ensures { result ≡ floor self.now.layout.sites (with_kept site found (past self.now)) site }
@@ -269,6 +307,28 @@ impl Book {
         ensures { option_copied result ≡ pending_at site (reverse (take place self.now.steps)) }
     {
         pending_at(&self.kept.steps()[..place], site)
+    }
+
+    /// The transaction of the origin that the site would take over next.
+    pub fn next_entry(&self, site: SiteNo, origin: SiteNo) -> Option<&Entry>
+        ensures exact { option_copied result ≡ next_entry self.now.layout (past self.now) site origin }
+        ensures origin { IfSome result (λ entry. (1 ≤ entry.now.origin) × (entry.now.origin ≤ length entry.now.begin)) }
+    {
+        self.kept.is_legal();
+        if self.kept.schema().is_site(origin) {
+            dm_clauses::next_entry(&self.kept, site, origin)
+        } else {
+            None
+        }
+    }
+
+    /// The first of the keys' partitions, in the order of the keys, on which the site may not begin: there is
+    /// none where all of them are here.
+    pub fn elsewhere(&self, site: SiteNo, keys: &[Key]) -> Option<Part>
+        requires { list_all (is_key self.now.layout) keys.now ≡ true }
+        ensures { result ≡ elsewhere self.now.layout (past self.now) site keys.now }
+    {
+        dm_clauses::elsewhere(&self.kept, site, keys)
     }
 
     /// The least origin whose next transaction the site may take over.

@@ -9,4 +9,5 @@ mod law;
 
 pub use book::Book;
 pub use dm_event::{Attempt, AttemptState, Placing};
+pub use dm_record::Frame;
 pub use law::{Chron, CorePass, Setting, lists_are_legal};

@@ -6,5 +6,5 @@ mod law;
 mod listing;
 
 pub use framing::pending_frame;
-pub use law::records_of_frames;
+pub use law::{records_of_frames, records_of_histories};
 pub use listing::frames;

@@ -1,11 +1,9 @@
 //! The frames of a site's records.
 
 ghost use Rattle.std.specs.List.{AllByRecursion};
-ghost use Rattle.std.specs.Prelude.{◌≡◌, IfOk, filter_map, map, option_copied, option_map, option_to_list, reverse};
-ghost use Rattle.dm_frames.specs.Records.{record_of, records_of, frames_of};
-ghost use Rattle.dm_model.specs.Acts.{acts_of};
-ghost use Rattle.dm_model.specs.Doubts.{step_of};
-ghost use Rattle.dm_record.specs.Bytes.{HasRanges, frame_of};
+ghost use Rattle.std.specs.Prelude.{◌≡◌, IfOk, OnOk, map, option_copied, option_to_list, reverse};
+ghost use Rattle.dm_frames.specs.Records.{frames_of, kept_records, records_by, records_of};
+ghost use Rattle.dm_record.specs.Bytes.{HasRanges, IsInRange, frame_of};
 
 use crate::framing::{commit_frame, is_act_of, pending_frame};
 use dm_event::{Found, NoMemory, Pending, SiteNo, Step};
@@ -21,8 +19,9 @@ fn kept_frame(
     at: SiteNo,
     site: SiteNo,
 ) -> Result<Option<Frame>, NoMemory>
-    requires { AllByRecursion HasRanges (filter_map (record_of site) (option_to_list (option_map (step_of at) (option_copied pending)))) }
-    ensures { IfOk result (λ frame. option_to_list frame ≡ map frame_of (filter_map (record_of site) (option_to_list (option_map (step_of at) (option_copied pending.entry))))) }
+    requires { AllByRecursion IsInRange (kept_records at site (option_copied pending)) }
+    ensures frame { IfOk result (λ frame. option_to_list frame ≡ map frame_of (kept_records at site (option_copied pending.entry))) }
+    ensures ranges { OnOk result (AllByRecursion HasRanges (kept_records at site (option_copied pending.entry))) }
 {
     let Some(pending) = pending else {
         return Ok(None);
@@ -41,8 +40,9 @@ fn frame_by(
     before: &[Step],
     site: SiteNo,
 ) -> Result<Option<Frame>, NoMemory>
-    requires { AllByRecursion HasRanges (filter_map (record_of site) (acts_of step.now (reverse before.now))) }
-    ensures { IfOk result (λ frame. option_to_list frame ≡ map frame_of (filter_map (record_of site) (acts_of step.now (reverse before.now)))) }
+    requires { AllByRecursion IsInRange (records_by site step.now (reverse before.now)) }
+    ensures frame { IfOk result (λ frame. option_to_list frame ≡ map frame_of (records_by site step.now (reverse before.now))) }
+    ensures ranges { OnOk result (AllByRecursion HasRanges (records_by site step.now (reverse before.now))) }
 {
     match step {
         Step::Commit { entry } if entry.origin == site => Ok(Some(commit_frame(alloc, entry)?)),
@@ -68,10 +68,12 @@ fn frame_by(
     }
 }
 
-/// The frames of the records of the site's acts, in the order of the steps.
+/// The frames of the records of the site's acts, in the order of the steps. All steps are looked at, and for
+/// each Restart that kept a step once more those before it.
 pub fn frames(alloc: Global, steps: &[Step], site: SiteNo) -> Result<Vec<Frame>, NoMemory>
-    requires { AllByRecursion HasRanges (records_of site (reverse steps.now)) }
-    ensures { IfOk result (λ frames. frames.items ≡ frames_of site (reverse steps.now)) }
+    requires { AllByRecursion IsInRange (records_of site (reverse steps.now)) }
+    ensures exact { IfOk result (λ frames. frames.items ≡ frames_of site (reverse steps.now)) }
+    ensures ranges { OnOk result (AllByRecursion HasRanges (records_of site (reverse steps.now))) }
 {
     let mut frames = Vec::new(alloc);
     for i in 0..steps.len() {

@@ -17,7 +17,7 @@ use Rattle.dm_event.specs.declared.step.Step.TheVariants.{Begin, Commit, Restart
 use Rattle.dm_index.proofs.EntriesNext.{entry_next_one}
 use Rattle.dm_index.specs.Places.{IsNext, Places}
 use Rattle.dm_index.specs.Rooms.{room_at, takes, CanTake}
-use Rattle.dm_kept.proofs.Installing.{IsSmall, Small, commit_small, pending_small, written_declared, known_pairs, rising_due}
+use Rattle.dm_kept.proofs.Installing.{known_pairs, rising_due}
 use Rattle.dm_kept.proofs.RunsKnown.{KnowsBegun, running_known, doubted_known}
 use Rattle.dm_kept.specs.Roomy.{all_to_come, HasBegin, HasRoom, KeepsRoom, KnowsKeys, KnowsPending, MayInstall}
 use Rattle.dm_kept.specs.Ledger.{Ledger, past}
@@ -28,6 +28,7 @@ use Rattle.dm_model.specs.Attempts.{declared}
 use Rattle.dm_model.specs.Doubts.{pending_at}
 use Rattle.dm_model.specs.Legal.{LegalPast}
 use Rattle.dm_model.specs.Runs.{runs}
+use Rattle.dm_plain.proofs.Written.{IsSmall, Small, commit_small, pending_small, written_declared}
 use Rattle.dm_room.proofs.Installing.{installs_next}
 use Rattle.dm_room.proofs.Needs.{need_is}
 use Rattle.dm_room.proofs.Sums.{two_sums, flat_sum, one_sum}

@@ -13,7 +13,7 @@ use Rattle.dm_event.specs.declared.step.Step.{Step}
 use Rattle.dm_event.specs.declared.step.Step.TheVariants.{Route, Begin, Commit, End, Fail, Doubt, Restart}
 use Rattle.dm_event.specs.declared.step.TxnId.{TxnId}
 use Rattle.dm_event.specs.declared.step.Want.{Want}
-use Rattle.dm_kept.proofs.Installing.{written_declared, known_pairs}
+use Rattle.dm_kept.proofs.Installing.{known_pairs}
 use Rattle.dm_kept.specs.Roomy.{KnowsKeys, KnowsPending}
 use Rattle.dm_model.proofs.LegalSteps.{legal_route, doubted_commit}
 use Rattle.dm_model.proofs.RunningIsLast.{seated}
@@ -25,6 +25,7 @@ use Rattle.dm_model.specs.Doubts.{pending_at}
 use Rattle.dm_model.specs.Legal.{LegalPast}
 use Rattle.dm_model.specs.Rows.{may_route}
 use Rattle.dm_model.specs.Runs.{runs}
+use Rattle.dm_plain.proofs.Written.{written_declared}
 
 not_true : (b : Bool) → (b ≡ true → ⊥) → b ≡ false
 not_true true h = absurd (h refl)

@@ -15,8 +15,8 @@ use Rattle.dm_event.specs.declared.step.Pending.TheVariants as pending
 use Rattle.dm_event.specs.declared.step.Step.{Step}
 use Rattle.dm_event.specs.declared.step.Step.TheVariants.{Commit, Fail, Release, Grant, Doubt, Restart}
 use Rattle.dm_event.specs.declared.step.TxnId.{TxnId}
-use Rattle.dm_frames.proofs.Adding.{records_by, records_more}
-use Rattle.dm_frames.specs.Records.{record_of, records_of, commit_record, pending_record}
+use Rattle.dm_frames.proofs.Adding.{records_more}
+use Rattle.dm_frames.specs.Records.{record_of, records_of, commit_record, pending_record, records_by}
 use Rattle.dm_model.proofs.LegalSteps.{legal_restart}
 use Rattle.dm_model.proofs.NumbersKept.{InDoubt}
 use Rattle.dm_model.proofs.NumbersSound.{counts, sound_past}

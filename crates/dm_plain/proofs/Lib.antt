@@ -3,3 +3,4 @@ pub mod Finding
 pub mod Entries
 pub mod KeptPlacings
 pub mod Settling
+pub mod Written

@@ -7,7 +7,7 @@ use Rattle.dm_event.specs.declared.step.TxnId.{TxnId}
 use Rattle.dm_record.specs.declared.record.Record.{Record}
 use Rattle.dm_record.specs.declared.record.Record.TheVariants.{Commit, Release, Grant}
 use Rattle.dm_record.specs.Form.{Form, done, byte, IsWord}
-use Rattle.dm_record.specs.Bytes.{digits, components, pairs, body, AreComponents, AreWrites, IsFrom, HasRanges, IsFrame}
+use Rattle.dm_record.specs.Bytes.{digits, components, pairs, body, AreComponents, AreKeys, AreValues, IsFrom, HasRanges, IsFrame}
 use Rattle.dm_record.specs.Frames.{IsSomeFrame, IsSomeBody}
 use Rattle.dm_record.specs.Grammar.{fits_commit, is_vector, is_commit_vector, is_commit_length, is_vector_length, is_length, is_kind, commit_form, release_form, grant_form, frame_form}
 use Rattle.dm_record.proofs.Spelling.{number_is}
@@ -112,13 +112,17 @@ commit_made : (n session nth attempt seq sites count : ℕ) (begin : List ℕ) (
     → IsFrom 1 32 session → IsFrom 1 (2 ^ 32 - 1) nth → IsFrom 1 (2 ^ 64 - 1) attempt → IsFrom 1 (2 ^ 64 - 1) seq
     → word ≡ digits 4 session ++ w1 → w1 ≡ digits 4 nth ++ w2 → w2 ≡ digits 8 attempt ++ w3 → w3 ≡ digits 8 seq ++ w4
     → w4 ≡ sites ∷ w5 → is_commit_vector n sites ≡ true → w5 ≡ components begin ++ w6 → length begin ≡ sites → AreComponents begin
-    → w6 ≡ count ∷ w7 → eqb n ((27 + 8 * sites) + 12 * count) ≡ true → w7 ≡ pairs writes ++ w8 → length writes ≡ count → AreWrites 0 writes → w8 ≡ []
+    → w6 ≡ count ∷ w7 → eqb n ((27 + 8 * sites) + 12 * count) ≡ true → w7 ≡ pairs writes ++ w8 → length writes ≡ count → AreKeys 0 writes
+    → AreValues writes → w8 ≡ []
     → IsBody n (1 ∷ word) (Commit (record { session = session; number = nth; attempt = attempt }) seq begin writes)
 commit_made n session nth attempt seq sites count begin writes word w1 w2 w3 w4 w5 w6 w7 w8 r1 r2 r3 r4 e1 e2 e3 e4 e5 vector e6 long_b are_b e7 sum e8
-    long_w are_w e9 =
+    long_w keys_w values_w e9 =
     let total = eqb-true n ((27 + 8 * sites) + 12 * count) sum in
     let counts = commit_counts n sites count (length begin) (length writes) vector total long_b long_w in (
-      (r1, r2, r3, r4, counts.0, are_b, counts.1, are_w),
+      (
+        (r1, r2.0, r3.0, r4.0, counts.0, counts.1, keys_w),
+        (omega (arith, r2.1), omega (arith, r3.1), omega (arith, r4.1), are_b, values_w),
+      ),
       ap (λ (l : List ℕ). 1 ∷ l)
           (behind (digits 4 session) w1 _ word e1 (behind (digits 4 nth) w2 _ w1 e2 (behind (digits 8 attempt) w3 _ w2 e3 (behind (digits 8 seq) w4 _ w3 e4
           (e5 ∙ ap (λ (k : ℕ). k ∷ w5) (sym long_b) ∙ ap (λ (l : List ℕ). length begin ∷ l)
@@ -140,11 +144,11 @@ commit_is n rec word h =
     let begin = components_is _ rec sites.0 [] sites.1 sites.5 in
     let count = byte_is (λ count. eqb n ((27 + 8 * sites.0) + 12 * count)) _ rec begin.1 begin.5 in
     let writes = pairs_is _ rec count.0 0 [] count.1 (room_for count.0 count.3) count.5 in
-    let ends = done_is _ rec writes.1 writes.5 in
+    let ends = done_is _ rec writes.1 writes.6 in
     subst (λ (r : Record). IsBody n (1 ∷ word) r) (sym ends.1)
     (commit_made n session.0 nth.0 attempt.0 seq.0 sites.0 count.0 begin.0 writes.0 word session.1 nth.1 attempt.1 seq.1 sites.1 begin.1 count.1 writes.1
     (session.3, session.4) (nth.3, nth.4) (attempt.3, attempt.4) (seq.3, seq.4) session.5 nth.5 attempt.5 seq.5 sites.2 sites.4 begin.4 begin.2 begin.3
-    count.2 count.4 writes.4 writes.2 writes.3 ends.0)
+    count.2 count.4 writes.5 writes.2 writes.3 writes.4 ends.0)
 
 pub div_one : (n : ℕ) → n / 1 ≡ n
 div_one n = omega arith
@@ -162,7 +166,10 @@ release_made : (n part epoch to sites : ℕ) (vector word w1 w2 w3 w4 w5 : List 
     → IsBody n (2 ∷ word) (Release part epoch to vector)
 release_made n part epoch to sites vector word w1 w2 w3 w4 w5 fits r1 r2 r3 e1 e2 e3 e4 sum e5 long are e6 =
     let total = eqb-true n (13 + 8 * sites) sum in (
-      (r1, r2, r3, vector_count 13 n sites (length vector) fits total long, are),
+      (
+        (omega (arith, r1.1), r3, vector_count 13 n sites (length vector) fits total long),
+        (omega (arith, r2.1), are),
+      ),
       ap (λ (l : List ℕ). 2 ∷ l)
           (behind (digits 2 part) w1 _ word e1 (behind (digits 8 epoch) w2 _ w1 e2
           (e3 ∙ ap (λ (k : ℕ). k ∷ w3) (div_one to) ∙ ap (λ (l : List ℕ). to ∷ l)
@@ -189,7 +196,10 @@ grant_made : (n part epoch sites : ℕ) (vector word w1 w2 w4 w5 : List ℕ) →
     → IsBody n (3 ∷ word) (Grant part epoch vector)
 grant_made n part epoch sites vector word w1 w2 w4 w5 fits r1 r2 e1 e2 e4 sum e5 long are e6 =
     let total = eqb-true n (12 + 8 * sites) sum in (
-      (r1, r2, vector_count 12 n sites (length vector) fits total long, are),
+      (
+        (omega (arith, r1.1), vector_count 12 n sites (length vector) fits total long),
+        (omega (arith, r2.1), are),
+      ),
       ap (λ (l : List ℕ). 3 ∷ l)
           (behind (digits 2 part) w1 _ word e1 (behind (digits 8 epoch) w2 _ w1 e2
           (e4 ∙ ap (λ (k : ℕ). k ∷ w4) (sym long) ∙ ap (λ (l : List ℕ). length vector ∷ l)
@@ -254,9 +264,9 @@ frame_is rec word h =
     )
 
 pub body_short : (rec : Record) → HasRanges rec → length (body rec) < 512
-body_short (Commit txn seq begin writes) has = omega (arith, commit_length txn seq begin writes, has.4.1, has.6.1)
-body_short (Release part epoch to vector) has = omega (arith, release_length part epoch to vector, has.3.1)
-body_short (Grant part epoch vector) has = omega (arith, grant_length part epoch vector, has.2.1)
+body_short (Commit txn seq begin writes) has = omega (arith, commit_length txn seq begin writes, has.0.4.1, has.0.5.1)
+body_short (Release part epoch to vector) has = omega (arith, release_length part epoch to vector, has.0.2.1)
+body_short (Grant part epoch vector) has = omega (arith, grant_length part epoch vector, has.0.1.1)
 
 pub some_body : (bytes frame : List ℕ) → IsSomeBody bytes → frame ≡ digits 4 (length bytes) ++ bytes → IsSomeFrame frame
 some_body bytes frame is same = (is.0, (is.1, same ∙ ap (λ (b : List ℕ). digits 4 (length b) ++ b) is.2))

@@ -65,11 +65,17 @@ vector_length_from before n sites sum least most =
     and_true _ _ (le-leb (before + 8) n (omega (arith, sum, least)))
     (and_true _ _ (le-leb n (before + 64) (omega (arith, sum, most))) (eq-eqb ((n - before) % 8) 0 (omega (arith, sum))))
 
-fits_8 : (n : ℕ) → n ≤ 2 ^ 64 - 1 → n < span 8
-fits_8 n most = omega (arith, most)
+most_8 : (n : ℕ) → n < 2 ^ 64 → n ≤ 2 ^ 64 - 1
+most_8 n fits = omega (arith, fits)
 
-fits_4 : (n : ℕ) → n ≤ 2 ^ 32 - 1 → n < span 4
-fits_4 n most = omega (arith, most)
+most_4 : (n : ℕ) → n < 2 ^ 32 → n ≤ 2 ^ 32 - 1
+most_4 n fits = omega (arith, fits)
+
+fits_8 : (n : ℕ) → n < 2 ^ 64 → n < span 8
+fits_8 n fits = omega (arith, fits)
+
+fits_4 : (n : ℕ) → n < 2 ^ 32 → n < span 4
+fits_4 n fits = omega (arith, fits)
 
 below_byte : (n : ℕ) → n ≤ 32 → n < 256
 below_byte n most = omega (arith, most)
@@ -77,8 +83,11 @@ below_byte n most = omega (arith, most)
 below_4 : (n : ℕ) → n ≤ 32 → n < span 4
 below_4 n most = omega (arith, most)
 
-below_2 : (n : ℕ) → n ≤ 255 → n < span 2
-below_2 n most = omega (arith, most)
+most_part : (n : ℕ) → n < 256 → n ≤ 255
+most_part n fits = omega (arith, fits)
+
+below_2 : (n : ℕ) → n < 256 → n < span 2
+below_2 n fits = omega (arith, fits)
 
 below_1 : (n : ℕ) → n ≤ 8 → n < span 1
 below_1 n most = omega (arith, most)
@@ -93,40 +102,40 @@ commit_word : (n : ℕ) (txn : TxnId) (seq : ℕ) (begin : List ℕ) (writes : L
     (Commit txn seq begin writes)
 commit_word n txn seq begin writes has sum =
     let rec = Commit txn seq begin writes in
-    number_word 1 32 _ rec 4 txn.session _ (below_4 txn.session has.0.1) has.0.0 has.0.1
-    (number_word 1 (2 ^ 32 - 1) _ rec 4 txn.number _ (fits_4 txn.number has.1.1) has.1.0 has.1.1
-    (number_word 1 (2 ^ 64 - 1) _ rec 8 txn.attempt _ (fits_8 txn.attempt has.2.1) has.2.0 has.2.1
-    (number_word 1 (2 ^ 64 - 1) _ rec 8 seq _ (fits_8 seq has.3.1) has.3.0 has.3.1
-    (byte_word (is_commit_vector n) _ rec (length begin) _ (below_byte (length begin) (up_to_32 (length begin) has.4.1))
-    (vector_from n (length begin) has.4.0 has.4.1 (fits_from n (length begin) (length writes) sum has.6.0 has.6.1))
-    (components_word _ rec begin [] _ has.5
-    (byte_word (λ count. eqb n ((27 + 8 * length begin) + 12 * count)) _ rec (length writes) _ (below_byte (length writes) has.6.1) (eq-eqb n _ sum)
+    number_word 1 32 _ rec 4 txn.session _ (below_4 txn.session has.0.0.1) has.0.0.0 has.0.0.1
+    (number_word 1 (2 ^ 32 - 1) _ rec 4 txn.number _ (fits_4 txn.number has.1.0) has.0.1 (most_4 txn.number has.1.0)
+    (number_word 1 (2 ^ 64 - 1) _ rec 8 txn.attempt _ (fits_8 txn.attempt has.1.1) has.0.2 (most_8 txn.attempt has.1.1)
+    (number_word 1 (2 ^ 64 - 1) _ rec 8 seq _ (fits_8 seq has.1.2) has.0.3 (most_8 seq has.1.2)
+    (byte_word (is_commit_vector n) _ rec (length begin) _ (below_byte (length begin) (up_to_32 (length begin) has.0.4.1))
+    (vector_from n (length begin) has.0.4.0 has.0.4.1 (fits_from n (length begin) (length writes) sum has.0.5.0 has.0.5.1))
+    (components_word _ rec begin [] _ has.1.3
+    (byte_word (λ count. eqb n ((27 + 8 * length begin) + 12 * count)) _ rec (length writes) _ (below_byte (length writes) has.0.5.1) (eq-eqb n _ sum)
     (subst (λ (l : List ℕ). IsWord (pairs_form (length writes) 0 [] (λ ps. done (Commit txn seq begin ps))) l rec) (append-nil (pairs writes))
-    (pairs_word (λ ps. done (Commit txn seq begin ps)) rec writes 0 [] [] has.7 (done_word rec)))))))))
+    (pairs_word (λ ps. done (Commit txn seq begin ps)) rec writes 0 [] [] has.0.6 has.1.4 (done_word rec)))))))))
 
 release_word : (n part epoch to : ℕ) (vector : List ℕ) → HasRanges (Release part epoch to vector) → n ≡ 13 + 8 * length vector
     → IsWord (release_form n) (digits 2 part ++ (digits 8 epoch ++ (to ∷ (length vector ∷ components vector)))) (Release part epoch to vector)
 release_word n part epoch to vector has sum =
     let rec = Release part epoch to vector in
-    number_word 0 255 _ rec 2 part _ (below_2 part has.0.1) has.0.0 has.0.1
-    (number_word 0 (2 ^ 64 - 1) _ rec 8 epoch _ (fits_8 epoch has.1.1) has.1.0 has.1.1
+    number_word 0 255 _ rec 2 part _ (below_2 part has.0.0) (omega arith) (most_part part has.0.0)
+    (number_word 0 (2 ^ 64 - 1) _ rec 8 epoch _ (fits_8 epoch has.1.0) (omega arith) (most_8 epoch has.1.0)
     (subst (λ (k : ℕ). IsWord (number 1 8 0 1
     (λ to. byte (λ sites. eqb n (13 + 8 * sites)) (λ sites. components_form sites [] (λ vector. done (Release part epoch to vector)))))
     (k ∷ (length vector ∷ components vector)) rec) (div_one to)
-    (number_word 1 8 _ rec 1 to _ (below_1 to has.2.1) has.2.0 has.2.1
-    (byte_word (λ sites. eqb n (13 + 8 * sites)) _ rec (length vector) _ (below_byte (length vector) (up_to_32 (length vector) has.3.1)) (eq-eqb n _ sum)
+    (number_word 1 8 _ rec 1 to _ (below_1 to has.0.1.1) has.0.1.0 has.0.1.1
+    (byte_word (λ sites. eqb n (13 + 8 * sites)) _ rec (length vector) _ (below_byte (length vector) (up_to_32 (length vector) has.0.2.1)) (eq-eqb n _ sum)
     (subst (λ (l : List ℕ). IsWord (components_form (length vector) [] (λ vector. done (Release part epoch to vector))) l rec) (append-nil (components vector))
-    (components_word (λ vector. done (Release part epoch to vector)) rec vector [] [] has.4 (done_word rec)))))))
+    (components_word (λ vector. done (Release part epoch to vector)) rec vector [] [] has.1.1 (done_word rec)))))))
 
 grant_word : (n part epoch : ℕ) (vector : List ℕ) → HasRanges (Grant part epoch vector) → n ≡ 12 + 8 * length vector
     → IsWord (grant_form n) (digits 2 part ++ (digits 8 epoch ++ (length vector ∷ components vector))) (Grant part epoch vector)
 grant_word n part epoch vector has sum =
     let rec = Grant part epoch vector in
-    number_word 0 255 _ rec 2 part _ (below_2 part has.0.1) has.0.0 has.0.1
-    (number_word 0 (2 ^ 64 - 1) _ rec 8 epoch _ (fits_8 epoch has.1.1) has.1.0 has.1.1
-    (byte_word (λ sites. eqb n (12 + 8 * sites)) _ rec (length vector) _ (below_byte (length vector) (up_to_32 (length vector) has.2.1)) (eq-eqb n _ sum)
+    number_word 0 255 _ rec 2 part _ (below_2 part has.0.0) (omega arith) (most_part part has.0.0)
+    (number_word 0 (2 ^ 64 - 1) _ rec 8 epoch _ (fits_8 epoch has.1.0) (omega arith) (most_8 epoch has.1.0)
+    (byte_word (λ sites. eqb n (12 + 8 * sites)) _ rec (length vector) _ (below_byte (length vector) (up_to_32 (length vector) has.0.1.1)) (eq-eqb n _ sum)
     (subst (λ (l : List ℕ). IsWord (components_form (length vector) [] (λ vector. done (Grant part epoch vector))) l rec) (append-nil (components vector))
-    (components_word (λ vector. done (Grant part epoch vector)) rec vector [] [] has.3 (done_word rec)))))
+    (components_word (λ vector. done (Grant part epoch vector)) rec vector [] [] has.1.1 (done_word rec)))))
 
 -- the length's two halves, then the kind and the rest
 frame_made : (n kind : ℕ) (rest : List ℕ) (rec : Record) → n < 512 → kind < 256 → is_length n ≡ true → is_kind n kind ≡ true
@@ -162,19 +171,19 @@ pub frame_word : (rec : Record) → HasRanges rec → IsWord frame_form (frame_o
 frame_word (Commit txn seq begin writes) has =
     let n = length (body (Commit txn seq begin writes)) in
     let sum = commit_length txn seq begin writes in
-    let fits = fits_from n (length begin) (length writes) sum has.6.0 has.6.1 in
-    let long = commit_length_from n (length begin) has.4.0 has.4.1 fits in
-    frame_made n 1 _ (Commit txn seq begin writes) (below_512 n (length begin) (length writes) sum has.4.1 has.6.1) (lit< tt)
+    let fits = fits_from n (length begin) (length writes) sum has.0.5.0 has.0.5.1 in
+    let long = commit_length_from n (length begin) has.0.4.0 has.0.4.1 fits in
+    frame_made n 1 _ (Commit txn seq begin writes) (below_512 n (length begin) (length writes) sum has.0.4.1 has.0.5.1) (lit< tt)
     (or_1 (is_commit_length n) _ long) long (commit_word n txn seq begin writes has sum)
 frame_word (Release part epoch to vector) has =
     let n = length (body (Release part epoch to vector)) in
     let sum = release_length part epoch to vector in
-    let fits = vector_length_from 13 n (length vector) sum has.3.0 has.3.1 in
-    frame_made n 2 _ (Release part epoch to vector) (below_512' 13 n (length vector) (omega arith) sum has.3.1) (lit< tt)
+    let fits = vector_length_from 13 n (length vector) sum has.0.2.0 has.0.2.1 in
+    frame_made n 2 _ (Release part epoch to vector) (below_512' 13 n (length vector) (omega arith) sum has.0.2.1) (lit< tt)
     (or_2 (is_commit_length n) _ (or_1 (is_vector_length 13 n) _ fits)) fits (release_word n part epoch to vector has sum)
 frame_word (Grant part epoch vector) has =
     let n = length (body (Grant part epoch vector)) in
     let sum = grant_length part epoch vector in
-    let fits = vector_length_from 12 n (length vector) sum has.2.0 has.2.1 in
-    frame_made n 3 _ (Grant part epoch vector) (below_512' 12 n (length vector) (omega arith) sum has.2.1) (lit< tt)
+    let fits = vector_length_from 12 n (length vector) sum has.0.1.0 has.0.1.1 in
+    frame_made n 3 _ (Grant part epoch vector) (below_512' 12 n (length vector) (omega arith) sum has.0.1.1) (lit< tt)
     (or_2 (is_commit_length n) _ (or_2 (is_vector_length 13 n) _ fits)) fits (grant_word n part epoch vector has sum)

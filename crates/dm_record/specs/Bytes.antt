@@ -1,5 +1,5 @@
 -- The frame of each record.
-use Rattle.std.specs.Prelude.{◌≡◌, ℕ, zero, suc, ◌+◌, ◌/◌, ◌%◌, ◌-◌, ◌^◌, ◌<◌, ◌≤◌, List, [], ◌∷◌, ◌++◌, length, FitsSigned}
+use Rattle.std.specs.Prelude.{◌≡◌, ℕ, zero, suc, ◌+◌, ◌/◌, ◌%◌, ◌^◌, ◌<◌, ◌≤◌, List, [], ◌∷◌, ◌++◌, length, FitsSigned}
 use Rattle.std.specs.Int.{cast_unsigned, w64}
 use Rattle.dm_event.specs.declared.limits.TheConstants.{MAX_SESSIONS, MAX_SITES, MAX_KEYS, MAX_PARTS}
 use Rattle.dm_event.specs.declared.step.Pair.{Pair}
@@ -43,18 +43,32 @@ AreComponents [] = Unit {0}
 AreComponents (x ∷ vector) = (x < 2 ^ 64) × AreComponents vector
 
 -- keys of schemas, each above the one before and the first of them at least this
-abbrev pub AreWrites : ℕ → List Pair → Type 0
-AreWrites least [] = Unit {0}
-AreWrites least (pair ∷ more) = IsFrom least MAX_KEY pair.key × FitsSigned w64 pair.value × AreWrites (pair.key + 1) more
+abbrev pub AreKeys : ℕ → List Pair → Type 0
+AreKeys least [] = Unit {0}
+AreKeys least (pair ∷ more) = IsFrom least MAX_KEY pair.key × AreKeys (pair.key + 1) more
+
+-- each value fits eight bytes
+abbrev pub AreValues : List Pair → Type 0
+AreValues [] = Unit {0}
+AreValues (pair ∷ more) = FitsSigned w64 pair.value × AreValues more
+
+-- the limits of the numbers of a record that their types don't give
+abbrev pub IsInRange : Record → Type 0
+IsInRange (Commit txn seq begin writes) =
+    IsFrom 1 MAX_SESSIONS txn.session × (1 ≤ txn.number) × (1 ≤ txn.attempt) × (1 ≤ seq)
+    × IsFrom 1 MAX_SITES (length begin) × IsFrom 1 MAX_KEYS (length writes) × AreKeys 0 writes
+IsInRange (Release part epoch to vector) = (part < MAX_PARTS) × IsFrom 1 MAX_SITES to × IsFrom 1 MAX_SITES (length vector)
+IsInRange (Grant part epoch vector) = (part < MAX_PARTS) × IsFrom 1 MAX_SITES (length vector)
+
+-- the other numbers of a record fit their types, and so their bytes
+abbrev pub FitsTypes : Record → Type 0
+FitsTypes (Commit txn seq begin writes) = (txn.number < 2 ^ 32) × (txn.attempt < 2 ^ 64) × (seq < 2 ^ 64) × AreComponents begin × AreValues writes
+FitsTypes (Release part epoch to vector) = (epoch < 2 ^ 64) × AreComponents vector
+FitsTypes (Grant part epoch vector) = (epoch < 2 ^ 64) × AreComponents vector
 
 -- the ranges of the numbers of a record
 abbrev pub HasRanges : Record → Type 0
-HasRanges (Commit txn seq begin writes) =
-    IsFrom 1 MAX_SESSIONS txn.session × IsFrom 1 (2 ^ 32 - 1) txn.number × IsFrom 1 (2 ^ 64 - 1) txn.attempt × IsFrom 1 (2 ^ 64 - 1) seq
-    × IsFrom 1 MAX_SITES (length begin) × AreComponents begin × IsFrom 1 MAX_KEYS (length writes) × AreWrites 0 writes
-HasRanges (Release part epoch to vector) =
-    IsFrom 0 (MAX_PARTS - 1) part × IsFrom 0 (2 ^ 64 - 1) epoch × IsFrom 1 MAX_SITES to × IsFrom 1 MAX_SITES (length vector) × AreComponents vector
-HasRanges (Grant part epoch vector) = IsFrom 0 (MAX_PARTS - 1) part × IsFrom 0 (2 ^ 64 - 1) epoch × IsFrom 1 MAX_SITES (length vector) × AreComponents vector
+HasRanges rec = IsInRange rec × FitsTypes rec
 
 -- the frame of a record
 abbrev pub IsFrame : List ℕ → Record → Type 0

@@ -1,10 +1,10 @@
 //! The frame of a record.
 
-ghost use Rattle.std.specs.Prelude.{◌≡◌, ◌≤◌, ◌<◌, ◌++◌, ◌∷◌, [], ◌-◌, ℕ, List, IfOk, OnOk, length, take};
+ghost use Rattle.std.specs.Prelude.{◌≡◌, ◌≤◌, ◌<◌, ◌++◌, ◌∷◌, [], ◌-◌, ℕ, List, FitsSigned, IfOk, OnOk, length, take};
 ghost use Rattle.std.specs.Int.{cast_unsigned, w64};
 ghost use Rattle.dm_event.specs.declared.step.Pair.{Pair};
 ghost use Rattle.dm_record.specs.Form.{span};
-ghost use Rattle.dm_record.specs.Bytes.{digits, components, pairs, body, frame_of, HasRanges};
+ghost use Rattle.dm_record.specs.Bytes.{digits, components, pairs, body, frame_of, AreComponents, AreValues, IsInRange, FitsTypes, HasRanges};
 ghost use Rattle.dm_record.specs.Frames.{IsSomeFrame, IsSomeBody};
 
 use crate::reading::span_of;
@@ -80,7 +80,8 @@ fn push_number(out: &mut Vec<u8>, n: u64, width: usize) -> Result<(), NoMemory>
 }
 
 fn push_vector(out: &mut Vec<u8>, vector: &[u64]) -> Result<(), NoMemory>
-    ensures { OnOk result (out.new.items ≡ out.old.items ++ components vector.now) }
+    ensures written { OnOk result (out.new.items ≡ out.old.items ++ components vector.now) }
+    ensures fits { OnOk result (AreComponents vector.now) }
 {
     let [first, rest @ ..] = vector else {
         return Ok(());
@@ -90,14 +91,16 @@ fn push_vector(out: &mut Vec<u8>, vector: &[u64]) -> Result<(), NoMemory>
 }
 
 fn push_pair(out: &mut Vec<u8>, pair: &Pair) -> Result<(), NoMemory>
-    ensures { OnOk result (out.new.items ≡ out.old.items ++ (digits 4 pair.now.key ++ digits 8 (cast_unsigned w64 pair.now.value))) }
+    ensures written { OnOk result (out.new.items ≡ out.old.items ++ (digits 4 pair.now.key ++ digits 8 (cast_unsigned w64 pair.now.value))) }
+    ensures fits { OnOk result (FitsSigned w64 pair.now.value) }
 {
     push_number(out, pair.key as u64, 4)?;
     push_number(out, pair.value.cast_unsigned(), 8)
 }
 
 fn push_pairs(out: &mut Vec<u8>, list: &[Pair]) -> Result<(), NoMemory>
-    ensures { OnOk result (out.new.items ≡ out.old.items ++ pairs list.now) }
+    ensures written { OnOk result (out.new.items ≡ out.old.items ++ pairs list.now) }
+    ensures fits { OnOk result (AreValues list.now) }
 {
     let [first, rest @ ..] = list else {
         return Ok(());
@@ -125,8 +128,9 @@ fn commit_body(
     begin: &Vector,
     writes: &[Pair],
 ) -> Result<Vec<u8>, NoMemory>
-    requires { HasRanges (Record.Commit txn seq begin.now writes.now) }
-    ensures { IfOk result (λ v. v.items ≡ body (Record.Commit txn seq begin.now writes.now)) }
+    requires { IsInRange (Record.Commit txn seq begin.now writes.now) }
+    ensures bytes { IfOk result (λ v. v.items ≡ body (Record.Commit txn seq begin.now writes.now)) }
+    ensures fits { OnOk result (FitsTypes (Record.Commit txn seq begin.now writes.now)) }
 {
     let begin = begin.as_slice();
     let mut out = Vec::new(alloc);
@@ -150,8 +154,9 @@ pub fn encode_commit(
     begin: &Vector,
     writes: &[Pair],
 ) -> Result<Frame, NoMemory>
-    requires { HasRanges (Record.Commit txn seq begin.now writes.now) }
-    ensures { IfOk result (λ f. f ≡ frame_of (Record.Commit txn seq begin.now writes.now)) }
+    requires { IsInRange (Record.Commit txn seq begin.now writes.now) }
+    ensures frame { IfOk result (λ f. f ≡ frame_of (Record.Commit txn seq begin.now writes.now)) }
+    ensures ranges { OnOk result (HasRanges (Record.Commit txn seq begin.now writes.now)) }
 {
     let body = commit_body(alloc, txn, seq, begin, writes)?;
     framed(alloc, body)
@@ -164,8 +169,9 @@ fn release_body(
     to: u8,
     vector: &Vector,
 ) -> Result<Vec<u8>, NoMemory>
-    requires { HasRanges (Record.Release part epoch to vector.now) }
-    ensures { IfOk result (λ v. v.items ≡ body (Record.Release part epoch to vector.now)) }
+    requires { IsInRange (Record.Release part epoch to vector.now) }
+    ensures bytes { IfOk result (λ v. v.items ≡ body (Record.Release part epoch to vector.now)) }
+    ensures fits { OnOk result (FitsTypes (Record.Release part epoch to vector.now)) }
 {
     let vector = vector.as_slice();
     let mut out = Vec::new(alloc);
@@ -186,16 +192,18 @@ pub fn encode_release(
     to: u8,
     vector: &Vector,
 ) -> Result<Frame, NoMemory>
-    requires { HasRanges (Record.Release part epoch to vector.now) }
-    ensures { IfOk result (λ f. f ≡ frame_of (Record.Release part epoch to vector.now)) }
+    requires { IsInRange (Record.Release part epoch to vector.now) }
+    ensures frame { IfOk result (λ f. f ≡ frame_of (Record.Release part epoch to vector.now)) }
+    ensures ranges { OnOk result (HasRanges (Record.Release part epoch to vector.now)) }
 {
     let body = release_body(alloc, part, epoch, to, vector)?;
     framed(alloc, body)
 }
 
 fn grant_body(alloc: Global, part: u16, epoch: u64, vector: &Vector) -> Result<Vec<u8>, NoMemory>
-    requires { HasRanges (Record.Grant part epoch vector.now) }
-    ensures { IfOk result (λ v. v.items ≡ body (Record.Grant part epoch vector.now)) }
+    requires { IsInRange (Record.Grant part epoch vector.now) }
+    ensures bytes { IfOk result (λ v. v.items ≡ body (Record.Grant part epoch vector.now)) }
+    ensures fits { OnOk result (FitsTypes (Record.Grant part epoch vector.now)) }
 {
     let vector = vector.as_slice();
     let mut out = Vec::new(alloc);
@@ -214,8 +222,9 @@ pub fn encode_grant(
     epoch: u64,
     vector: &Vector,
 ) -> Result<Frame, NoMemory>
-    requires { HasRanges (Record.Grant part epoch vector.now) }
-    ensures { IfOk result (λ f. f ≡ frame_of (Record.Grant part epoch vector.now)) }
+    requires { IsInRange (Record.Grant part epoch vector.now) }
+    ensures frame { IfOk result (λ f. f ≡ frame_of (Record.Grant part epoch vector.now)) }
+    ensures ranges { OnOk result (HasRanges (Record.Grant part epoch vector.now)) }
 {
     let body = grant_body(alloc, part, epoch, vector)?;
     framed(alloc, body)
@@ -223,8 +232,9 @@ pub fn encode_grant(
 
 /// The frame of a record.
 pub fn encode(alloc: Global, rec: &Record) -> Result<Frame, NoMemory>
-    requires { HasRanges rec.now }
-    ensures { IfOk result (λ f. f ≡ frame_of rec.now) }
+    requires { IsInRange rec.now }
+    ensures frame { IfOk result (λ f. f ≡ frame_of rec.now) }
+    ensures ranges { OnOk result (HasRanges rec.now) }
 {
     match rec {
         Record::Commit {

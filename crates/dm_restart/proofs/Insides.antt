@@ -15,11 +15,11 @@ use Rattle.dm_event.specs.declared.step.Pair.{Pair}
 use Rattle.dm_model.proofs.Numbering.{Numbered, count_at, count_own, count_other}
 use Rattle.dm_model.specs.Closed.{is_inside}
 use Rattle.dm_model.specs.Shape.{is_ascending}
+use Rattle.dm_plain.proofs.Written.{Small}
 use Rattle.dm_record.specs.declared.record.Record.{Record}
 use Rattle.dm_restart.proofs.Lacking.{find_same}
 use Rattle.dm_restart.proofs.Numbers.{numbers-append, one_of_range, above_range}
 use Rattle.dm_restart.proofs.Reversing.{each_reverse}
-use Rattle.dm_restart.specs.Histories.{HasFewWrites}
 use Rattle.dm_restart.specs.Plans.{numbers_of, commits_of, is_one_of, is_numbered_above, lacking, completed}
 use Rattle.dm_store.specs.Histories.{past_of}
 use Rattle.dm_store.specs.Rising.{fits, is_above, may_install}
@@ -175,14 +175,14 @@ may_more base (x ∷ xs) t h f =
     and_from (fits base x) (may_install (base ++ x ∷ []) (xs ++ t ∷ [])) p.0
     (may_more (base ++ x ∷ []) xs t p.1 (subst (λ (ts : List Past). fits ts t ≡ true) (sym (append_assoc base (x ∷ []) xs)) f))
 
-pub may_inside : (v : List ℕ) (es : List Entry) → Numbered es → Each HasFewWrites es → may_install [] (inside v es) ≡ true
+pub may_inside : (v : List ℕ) (es : List Entry) → Numbered es → Each Small es → may_install [] (inside v es) ≡ true
 may_inside v [] n f = refl
 may_inside v (e ∷ es) n f = subst (λ (ts : List Past). may_install [] ts ≡ true) (sym (inside_more v e es)) (by (is_inside v e) (may_inside v es n.1 f.1))
   where
     fitting : fits (inside v es) (past_of e) ≡ true
     fitting =
         and_from (nat_le (length e.writes) MAX_KEYS) _ (le-leb (length e.writes) MAX_KEYS f.0.few)
-        (and_from (is_ascending (map (λ (p : Pair). p.key) e.writes)) (is_above (inside v es) e.origin e.seq) f.0.ascending
+        (and_from (is_ascending (map (λ (p : Pair). p.key) e.writes)) (is_above (inside v es) e.origin e.seq) f.0.ascends
         (above_range (inside v es) e.origin e.seq (min (at v e.origin) (count_at e.origin es)) (inside_numbers v es n.1 e.origin)
         (let m = n.0.seq in omega (arith, m))))
 

@@ -14,7 +14,7 @@ use Rattle.dm_event.specs.declared.step.TxnId.{TxnId}
 use Rattle.dm_event.specs.Vectors.{at}
 use Rattle.dm_model.proofs.ListFacts.{found_each, found_holds}
 use Rattle.dm_model.specs.Shape.{is_ascending}
-use Rattle.dm_record.specs.Bytes.{HasRanges, AreWrites}
+use Rattle.dm_record.specs.Bytes.{HasRanges, AreKeys}
 use Rattle.dm_record.specs.declared.record.Record.{Record}
 use Rattle.dm_record.specs.declared.record.Record.TheVariants.{Commit, Release, Grant}
 use Rattle.dm_restart.proofs.Numbers.{numbers-append, front_range, above_range, one_of_range}
@@ -79,17 +79,17 @@ pub record IsOwn (site : ℕ) (t : Past) : Type 0 where
   pub few : length t.writes ≤ MAX_KEYS
   pub ascending : is_ascending (map (λ (p : Pair). p.key) t.writes) ≡ true
 
-writes_ascend : (least : ℕ) (ps : List Pair) → AreWrites least ps → is_ascending (map (λ (p : Pair). p.key) ps) ≡ true
-writes_ascend least [] h = refl
-writes_ascend least (p ∷ []) h = refl
-writes_ascend least (p ∷ q ∷ ps) h =
-    ap (λ (b : Bool). b && is_ascending (map (λ (x : Pair). x.key) (q ∷ ps))) (lt-ltb p.key q.key (let a = h.2.0.0 in omega (arith, a)))
-    ∙ writes_ascend (p.key + 1) (q ∷ ps) h.2
+keys_ascend : (least : ℕ) (ps : List Pair) → AreKeys least ps → is_ascending (map (λ (p : Pair). p.key) ps) ≡ true
+keys_ascend least [] h = refl
+keys_ascend least (p ∷ []) h = refl
+keys_ascend least (p ∷ q ∷ ps) h =
+    ap (λ (b : Bool). b && is_ascending (map (λ (x : Pair). x.key) (q ∷ ps))) (lt-ltb p.key q.key (let a = h.1.0.0 in omega (arith, a)))
+    ∙ keys_ascend (p.key + 1) (q ∷ ps) h.1
 
 pub each_own : (site : ℕ) (own : List Record) → Each HasRanges own → Each (IsOwn site) (commits_of site own)
 each_own site [] h = tt
 each_own site (Commit txn seq begin writes ∷ own) h =
-    (record { origin = refl; counts = h.0.3.0; few = h.0.6.1; ascending = writes_ascend 0 writes h.0.7 }, each_own site own h.1)
+    (record { origin = refl; counts = h.0.0.3; few = h.0.0.5.1; ascending = keys_ascend 0 writes h.0.0.6 }, each_own site own h.1)
 each_own site (Release part epoch to vector ∷ own) h = each_own site own h.1
 each_own site (Grant part epoch vector ∷ own) h = each_own site own h.1
 

@@ -1,19 +1,11 @@
 -- What a site finds, in a history, to restart with.
-use Rattle.std.specs.Prelude.{ℕ, ◌≤◌, List, length, map, IsTrue}
-use Rattle.dm_event.specs.declared.limits.TheConstants.{MAX_KEYS}
-use Rattle.dm_event.specs.declared.step.Entry.{Entry}
+use Rattle.std.specs.Prelude.{ℕ, List}
 use Rattle.dm_event.specs.declared.step.Found.{Found}
 use Rattle.dm_event.specs.declared.step.Step.{Step}
 use Rattle.dm_frames.specs.Records.{records_of}
 use Rattle.dm_model.specs.Allowed.{with_kept}
-use Rattle.dm_model.specs.Shape.{is_ascending}
 use Rattle.dm_record.specs.declared.record.Record.{Record}
 
 -- what stands in the site's log: the records of its acts, with the one of the step in doubt where that is kept
 abbrev pub logged : ℕ → Found → List Step → List Record
 logged site found past = records_of site (with_kept site found past)
-
--- the entry's writes are few, and ascend by key
-pub record HasFewWrites (e : Entry) : Type 0 where
-  pub few : length e.writes ≤ MAX_KEYS
-  pub ascending : IsTrue (is_ascending (map (λ p. p.key) e.writes))

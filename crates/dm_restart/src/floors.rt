@@ -8,11 +8,11 @@ use dm_event::{MAX_SITES, SiteNo, Vector};
 use dm_record::Record;
 
 /// What the record of the site counts in its floor.
-fn counted(record: &Record, site: SiteNo) -> Option<Vector>
+fn counted(rec: &Record, site: SiteNo) -> Option<Vector>
     requires { 1 ≤ site }
-    ensures { result ≡ counted site record.now }
+    ensures { result ≡ counted site rec.now }
 {
-    match record {
+    match rec {
         Record::Commit { seq, begin, .. } => {
             let mut vector = *begin;
             // A record that is read from a file may have a vector of fewer sites.

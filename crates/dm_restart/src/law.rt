@@ -1,6 +1,6 @@
 //! What a site restarts with, in a history.
 
-ghost use Rattle.std.specs.List.{AllByRecursion, Contains};
+ghost use Rattle.std.specs.List.{Contains};
 ghost use Rattle.std.specs.Prelude.{◌≡◌, ℕ, List, [], IsTrue, length, reverse};
 ghost use Rattle.dm_event.specs.Layout.{Layout, is_site};
 ghost use Rattle.dm_event.specs.Vectors.{AtMost, raised};
@@ -9,7 +9,6 @@ ghost use Rattle.dm_event.specs.declared.step.Pair.{Pair};
 ghost use Rattle.dm_event.specs.declared.step.Step.{Step};
 ghost use Rattle.dm_event.specs.declared.step.TxnId.{TxnId};
 ghost use Rattle.dm_frames.specs.Records.{records_of};
-ghost use Rattle.dm_model.specs.Acts.{entries};
 ghost use Rattle.dm_model.specs.Allowed.{with_kept};
 ghost use Rattle.dm_model.specs.Doubts.{is_down};
 ghost use Rattle.dm_model.specs.Floors.{floor};
@@ -19,7 +18,7 @@ ghost use Rattle.dm_model.specs.Values.{value};
 ghost use Rattle.dm_record.specs.declared.record.Record.{Record};
 ghost use Rattle.dm_record.specs.declared.record.Record.TheVariants.{Commit, Grant};
 ghost use Rattle.dm_restart.specs.Floors.{floor_of};
-ghost use Rattle.dm_restart.specs.Histories.{logged, HasFewWrites};
+ghost use Rattle.dm_restart.specs.Histories.{logged};
 ghost use Rattle.dm_restart.specs.Plans.{completed, ReachesFloor};
 ghost use Rattle.dm_store.specs.Histories.{committed_inside};
 ghost use Rattle.dm_store.specs.Reads.{value_of};
@@ -42,8 +41,7 @@ pub fn plans_of_histories()
     ensures whole { (layout : Layout) (history : List Step) → Legal layout history → (site : ℕ) → IsTrue (is_site layout site)
         → (found : Found) → IsTrue (found_fits found (is_down site (reverse history)))
         → let own = logged site found (reverse history) in ReachesFloor layout.sites site own (committed_inside history (floor_of layout.sites site own)) }
-    ensures installs { (layout : Layout) (history : List Step) → Legal layout history → AllByRecursion HasFewWrites (entries (reverse history))
-        → (v : List ℕ) → IsTrue (may_install [] (committed_inside history v)) }
+    ensures installs { (layout : Layout) (history : List Step) → Legal layout history → (v : List ℕ) → IsTrue (may_install [] (committed_inside history v)) }
     ensures reads { (layout : Layout) (history : List Step) → Legal layout history → (site : ℕ) → IsTrue (is_site layout site)
         → (found : Found) → IsTrue (found_fits found (is_down site (reverse history)))
         → let own = logged site found (reverse history) in let low = floor_of layout.sites site own in (u : List ℕ) (key : ℕ) → AtMost u low

@@ -4,6 +4,5 @@ pub mod Steps
 pub mod Others
 pub mod Reading
 pub mod Restarting
-pub mod Few
 pub mod Fitting
 mod Worked

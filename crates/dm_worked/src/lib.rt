@@ -7,4 +7,6 @@ mod acts;
 #[cfg(test)]
 mod past;
 #[cfg(test)]
+mod site;
+#[cfg(test)]
 mod tables;

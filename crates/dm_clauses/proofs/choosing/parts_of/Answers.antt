@@ -8,7 +8,7 @@ use Rattle.dm_model.specs.Choices.{parts_in_order, parts_of}
 use Rattle.dm_model.specs.Tests.{is_among}
 use Rattle.dm_placement.proofs.Distinct.{among_distinct}
 use Rattle.dm_placement.proofs.Existing.{keys_below}
-use Rattle.dm_clauses.proofs.Elsewhere.{key_in, part_is}
+use Rattle.dm_clauses.proofs.KeysAway.{key_in, part_is}
 use Rattle.dm_clauses.proofs.choosing.parts_of.Goals as goal
 
 -- the first of ascending keys ascend

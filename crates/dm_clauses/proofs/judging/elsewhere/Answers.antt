@@ -1,6 +1,6 @@
 use Rattle.std.proofs.Common.{◌+◌, ℕ, List, Option, ap, sym, ◌∙◌, drop}
 use Rattle.std.specs.Option.{option_or}
-use Rattle.dm_clauses.proofs.Elsewhere.{left, left_at, key_in}
+use Rattle.dm_clauses.proofs.KeysAway.{left, left_at, key_in}
 use Rattle.dm_steps.proofs.Past.{drop_all}
 use Rattle.dm_clauses.proofs.judging.elsewhere.Goals as goal
 

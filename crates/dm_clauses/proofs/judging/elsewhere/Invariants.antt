@@ -1,5 +1,5 @@
 use Rattle.std.proofs.Common.{◌≡◌, drop}
-use Rattle.dm_clauses.proofs.Elsewhere.{left}
+use Rattle.dm_clauses.proofs.KeysAway.{left}
 use Rattle.dm_clauses.proofs.judging.elsewhere.Given as goal
 
 abbrev pub invariant-loop-key : goal.invariant-loop-key

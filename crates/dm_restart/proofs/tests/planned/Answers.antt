@@ -4,7 +4,7 @@ use Rattle.std.specs.List.{AllByRecursion as Each}
 use Rattle.std.specs.Prelude.{pos}
 use Rattle.dm_event.specs.declared.step.Pair.{Pair}
 use Rattle.dm_event.specs.declared.step.TxnId.{TxnId}
-use Rattle.dm_record.specs.Bytes.{HasRanges, IsFrom, AreComponents, AreWrites}
+use Rattle.dm_record.specs.Bytes.{HasRanges, AreKeys, AreValues}
 use Rattle.dm_record.specs.declared.record.Record.{Record}
 use Rattle.dm_record.specs.declared.record.Record.TheVariants.{Commit}
 use Rattle.dm_restart.specs.Plans.{numbers_of, completed, ReachesFloor}
@@ -27,34 +27,44 @@ logged = Commit txn 1 (0 ∷ 0 ∷ []) first ∷ Commit txn 2 (1 ∷ 1 ∷ []) l
 abbrev known : List Past
 known = record { origin = 2; seq = 1; writes = record { key = 13; value = pos 9 } ∷ [] } ∷ record { origin = 1; seq = 1; writes = first } ∷ []
 
-first_writes : AreWrites 0 first
-first_writes = ((omega arith, omega arith), search rules, tt)
+first_keys : AreKeys 0 first
+first_keys = ((omega arith, omega arith), tt)
 
-last_writes : AreWrites 0 last
-last_writes = ((omega arith, omega arith), search rules, tt)
+last_keys : AreKeys 0 last
+last_keys = ((omega arith, omega arith), tt)
+
+first_values : AreValues first
+first_values = (search rules, tt)
+
+last_values : AreValues last
+last_values = (search rules, tt)
 
 ranges : Each HasRanges logged
 ranges = (
   (
-    (omega arith, omega arith),
-    (omega arith, omega arith),
-    (omega arith, omega arith),
-    (omega arith, omega arith),
-    (omega arith, omega arith),
-    (omega arith, (omega arith, tt)),
-    (omega arith, omega arith),
-    first_writes,
+    (
+      (omega arith, omega arith),
+      omega arith,
+      omega arith,
+      omega arith,
+      (omega arith, omega arith),
+      (omega arith, omega arith),
+      first_keys,
+    ),
+    (omega arith, omega arith, omega arith, (omega arith, (omega arith, tt)), first_values),
   ),
   (
     (
-      (omega arith, omega arith),
-      (omega arith, omega arith),
-      (omega arith, omega arith),
-      (omega arith, omega arith),
-      (omega arith, omega arith),
-      (omega arith, (omega arith, tt)),
-      (omega arith, omega arith),
-      last_writes,
+      (
+        (omega arith, omega arith),
+        omega arith,
+        omega arith,
+        omega arith,
+        (omega arith, omega arith),
+        (omega arith, omega arith),
+        last_keys,
+      ),
+      (omega arith, omega arith, omega arith, (omega arith, (omega arith, tt)), last_values),
     ),
     tt,
   ),
