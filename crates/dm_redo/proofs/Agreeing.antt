@@ -1,15 +1,17 @@
 -- A file that holds what was written agrees with it; and where one doesn't, two bytes differ.
-use Rattle.std.proofs.Common.{◌≡◌, ◌≢◌, inl, inr, refl, sym, ◌∙◌, ap, subst, ℕ, suc, Bool, true, false, cond, eqb, ◌&&◌, List, [], ◌∷◌, ◌++◌, length, drop, append_assoc}
+use Rattle.std.proofs.Common.{◌≡◌, ◌≢◌, inl, inr, refl, sym, ◌∙◌, ap, subst, ℕ, suc, Bool, true, false, cond, eqb, ◌&&◌, List, [], ◌∷◌, ◌++◌, length, drop, append_assoc, le_refl}
 use Rattle.std.proofs.lemmas.Bool.{eqb-false, eq-eqb, ne_eqb}
 use Rattle.std.proofs.lemmas.List.{drop_at}
-use Rattle.std.specs.Prelude.{Option, Some, None, Result, Ok, Err, slice_get}
+use Rattle.std.proofs.lemmas.Option.{slice_get_past}
+use Rattle.std.specs.Prelude.{Option, Some, None, Result, Ok, Err, IfErr, slice_get}
 use Rattle.dm_event.specs.declared.step.Found.{Found}
 use Rattle.dm_event.specs.declared.step.Found.TheVariants as found
 use Rattle.dm_redo.specs.declared.comparing.AgainstFault.{AgainstFault}
 use Rattle.dm_redo.specs.declared.comparing.AgainstFault.TheVariants as fault
 use Rattle.dm_redo.specs.Holding.{framed, IsEnd, Holds}
-use Rattle.dm_redo.specs.Comparing.{common, begins, is_open, judged, compared}
+use Rattle.dm_redo.specs.Comparing.{common, begins, is_open, judged, compared, stood, Says, TellsExpected}
 use Rattle.dm_redo.specs.Settling.{Agrees, IsAgreed}
+use Rattle.dm_redo.proofs.Compared.{framed_one}
 use Rattle.dm_redo.proofs.Places.{framed_push}
 
 -- where the expected bytes don't all stand in the file, the first that differs is another there, or isn't there
@@ -119,3 +121,28 @@ agreed written None file (rest, is, ends) =
     (found.Clean, ap (compared (framed written) None) is ∙ judged_so (framed written) rest found.Clean ends, (rest, is, ends))
 agreed written (Some frame) file (inl holds) = agrees_lost written frame file holds
 agreed written (Some frame) file (inr (rest, is, ends)) = agrees_kept written frame file rest (is ∙ framed_push written frame rest) ends
+
+-- ---- the expected byte
+
+expects_by : (a b : Bool) (p1 p2 : ℕ) (r2 w2 : Option ℕ) (f : Found) (expected : List ℕ) (place : ℕ) (read due : Option ℕ)
+    → cond a (cond b (Err (fault.Differs p1 (Some 1) None)) (Ok f)) (Err (fault.Differs p2 r2 w2)) ≡ Err (fault.Differs place read due)
+    → None ≡ slice_get expected p1 → w2 ≡ slice_get expected p2 → due ≡ slice_get expected place
+expects_by true true p1 p2 r2 w2 f expected place read due is end other =
+    let byte : None ≡ due = cc (is) in let at : p1 ≡ place = cc (is) in sym byte ∙ end ∙ ap (slice_get expected) at
+expects_by true false p1 p2 r2 w2 f expected place read due is end other = absurd (cc is)
+expects_by false b p1 p2 r2 w2 f expected place read due is end other =
+    let byte : w2 ≡ due = cc (is) in let at : p2 ≡ place = cc (is) in sym byte ∙ other ∙ ap (slice_get expected) at
+
+judged_expects : (expected file : List ℕ) (f : Found) (place : ℕ) (read due : Option ℕ) → judged expected f file ≡ Err (fault.Differs place read due)
+    → due ≡ slice_get expected place
+judged_expects expected file f place read due is =
+    expects_by (begins expected file) (is_open (drop (length expected) file)) (length expected) (common expected file) (slice_get file (common expected file))
+    (slice_get expected (common expected file)) f expected place read due is (sym (slice_get_past expected (length expected) (le_refl (length expected)))) refl
+
+-- where the pending frame stood there too
+pub kept_expects : {A : Type 0} (written : List (List ℕ)) (pending : Option (List ℕ)) (frame expected file : List ℕ) (result : Result A AgainstFault) → pending ≡ Some frame
+    → expected ≡ framed written ++ 1 ∷ frame → IfErr result (λ e. Says (Err e) (judged expected found.Kept file) × (e ≡ fault.Log → ⊥)) → IfErr result (TellsExpected written pending)
+kept_expects written pending frame expected file (Ok x) is long h = tt
+kept_expects written pending frame expected file (Err e) is long h = λ place read due same. (found.Kept,
+    judged_expects expected file found.Kept place read due (subst (λ (x : AgainstFault). Says (Err x) (judged expected found.Kept file)) same h.0)
+    ∙ ap (λ (l : List ℕ). slice_get l place) (long ∙ sym (framed_one written frame)) ∙ ap (λ (p : Option (List ℕ)). slice_get (framed (stood found.Kept written p)) place) (sym is))

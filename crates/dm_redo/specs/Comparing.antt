@@ -58,3 +58,11 @@ stood found.Lost written pending = written
 abbrev pub AreFrames : List (List ℕ) → Type 0
 AreFrames [] = Unit {0}
 AreFrames (frame ∷ frames) = IsSomeFrame frame × AreFrames frames
+
+-- the byte that is expected at the place, where the file is to have this
+abbrev pub IsExpectedAt : List (List ℕ) → Option (List ℕ) → ℕ → Option ℕ → Type 0
+IsExpectedAt written pending place byte = (found : Found) × (byte ≡ slice_get (framed (stood found written pending)) place)
+
+-- where bytes differ, the one that was written is the expected one
+abbrev pub TellsExpected : List (List ℕ) → Option (List ℕ) → AgainstFault → Type 0
+TellsExpected written pending e = (place : ℕ) (read due : Option ℕ) → e ≡ fault.Differs place read due → IsExpectedAt written pending place due

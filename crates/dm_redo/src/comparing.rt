@@ -4,7 +4,7 @@ ghost use Rattle.std.specs.Prelude.{◌≡◌, ◌≢◌, ◌+◌, ◌<◌, ◌�
 ghost use Rattle.dm_record.specs.Frames.{IsSomeFrame};
 ghost use Rattle.dm_redo.specs.Holding.{framed};
 ghost use Rattle.dm_redo.specs.Settling.{IsAgreed};
-ghost use Rattle.dm_redo.specs.Comparing.{common, begins, is_open, judged, compared, Says, stood, AreFrames};
+ghost use Rattle.dm_redo.specs.Comparing.{common, begins, is_open, judged, compared, Says, TellsExpected, stood, AreFrames};
 
 use dm_event::{Found, NoMemory};
 use dm_record::Frame;
@@ -103,6 +103,7 @@ pub(crate) fn compare(
     ensures frames { IfOk result (λ r. AreFrames (stood r.0 written.now (option_map (λ f. f.now) pending.entry))) }
     ensures clean { IfOk result (λ r. (r.0 ≡ Found.Clean → IsNone pending.entry) × (IsNone pending.entry → r.0 ≡ Found.Clean)) }
     ensures apart { IfErr result (λ e. (place : ℕ) (read written : Option ℕ) → e ≡ AgainstFault.Differs place read written → read ≢ written) }
+    ensures expected { IfErr result (TellsExpected written.now (option_map (λ f. f.now) pending.entry)) }
     ensures log { IfErr result (λ e. e ≡ AgainstFault.Log → ⊥) }
 {
     let Ok(mut expected) = joined(alloc, written) else {

@@ -6,7 +6,7 @@ ghost use Rattle.dm_logdisk.specs.Story.{Both, bytes_of};
 ghost use Rattle.dm_logdisk.specs.Calls.{Counts};
 ghost use Rattle.dm_redo.specs.Reading.{ReadsAll};
 ghost use Rattle.dm_redo.specs.Holding.{IsAt};
-ghost use Rattle.dm_redo.specs.Comparing.{Shows, stood};
+ghost use Rattle.dm_redo.specs.Comparing.{Shows, TellsExpected, stood};
 ghost use Rattle.dm_redo.specs.Settling.{Keeps, Stood};
 ghost use Rattle.dm_redo.specs.Finding.{AreRecords, Has, IsBadAt, Loads, KeepsRecords, frames_of, IsOneLog, IsEitherEnd};
 
@@ -148,6 +148,7 @@ pub(crate) fn against<D: LogDisk>(
     ensures ranges { IfOk result (λ r. AreRecords r.1.items) }
     ensures clean { IfOk result (λ r. (r.0 ≡ Found.Clean → IsNone pending.entry) × (IsNone pending.entry → r.0 ≡ Found.Clean)) }
     ensures apart { IfErr result (λ e. (place : ℕ) (read written : Option ℕ) → e ≡ AgainstFault.Differs place read written → read ≢ written) }
+    ensures expected { IfErr result (TellsExpected written.now (option_map (λ f. f.now) pending.entry)) }
     ensures cause { IfErr result (λ e. e ≡ AgainstFault.Log → Rose (D.faults disk.old) (D.faults disk.new)) }
 {
     let bytes = match read_all(disk, alloc) {

@@ -6,7 +6,7 @@ ghost use Rattle.dm_logdisk.specs.Story.{Both, bytes_of};
 ghost use Rattle.dm_redo.specs.Holding.{IsAt};
 ghost use Rattle.dm_redo.specs.Appending.{Appends};
 ghost use Rattle.dm_redo.specs.Finding.{AreRecords, Loads, KeepsRecords, IsBadAt, frames_of};
-ghost use Rattle.dm_redo.specs.Comparing.{Shows, stood};
+ghost use Rattle.dm_redo.specs.Comparing.{Shows, TellsExpected, stood};
 ghost use Rattle.dm_redo.specs.Settling.{Keeps, Stood};
 
 use crate::appending::{Appended, write_frame};
@@ -150,6 +150,7 @@ impl<D: LogDisk> RedoLog<D> {
         ensures clean { IfOk result (λ found. found ≡ Found.Clean → IsNone pending.entry) }
         ensures pending { IfOk result (λ found. IsNone pending.entry → found ≡ Found.Clean) }
         ensures apart { IfErr result (λ e. (place : ℕ) (read written : Option ℕ) → e ≡ AgainstFault.Differs place read written → read ≢ written) }
+        ensures expected { IfErr result (TellsExpected written.now (option_map (λ f. f.now) pending.entry)) }
         ensures cause { IfErr result (λ e. e ≡ AgainstFault.Log → Rose (D.faults self.old.disk) (D.faults self.new.disk)) }
     {
         self.live = false;
