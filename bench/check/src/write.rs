@@ -1,8 +1,6 @@
 //! Printing a history.
 
-use crate::step::{
-    Cause, Choice, Entry, Found, Op, Pair, Pending, Said, Step, TxnId, Vector, Want,
-};
+use crate::step::{Cause, Choice, Found, Op, Pair, Pending, Said, Step, TxnId, Vector, Want};
 use std::fmt::{Display, Formatter, Result, Write as _};
 
 /// The lines of the steps.
@@ -166,21 +164,17 @@ impl Display for Act<'_> {
     fn fmt(&self, f: &mut Formatter<'_>) -> Result {
         let Act(site, pending) = self;
         match pending {
-            Pending::Commit(Entry {
-                txn,
-                origin,
-                seq,
-                begin,
-                ops,
-                reads,
-                writes,
-            }) => {
-                let (ops, reads, writes) = (List(ops), List(reads), List(writes));
-                write!(
-                    f,
-                    "commit {origin} {txn} {seq} {begin} ops {ops} reads {reads} writes {writes}"
-                )
-            }
+            Pending::Commit(entry) => write!(
+                f,
+                "commit {} {} {} {} ops {} reads {} writes {}",
+                entry.origin,
+                entry.txn,
+                entry.seq,
+                entry.begin,
+                List(&entry.ops),
+                List(&entry.reads),
+                List(&entry.writes)
+            ),
             Pending::Release {
                 part,
                 epoch,

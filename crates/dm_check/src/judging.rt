@@ -1,6 +1,6 @@
 //! A list of steps, judged one step at a time.
 
-ghost use Rattle.std.specs.Prelude.{◌≡◌, ◌↔◌, List, [], ◌∷◌, ◌++◌, IfOk, OnOk};
+ghost use Rattle.std.specs.Prelude.{◌≡◌, ◌↔◌, List, [], ◌∷◌, ◌++◌, IfOk, OnOk, OnErr};
 ghost use Rattle.dm_event.specs.declared.step.Step.{Step};
 ghost use Rattle.dm_model.specs.Legal.{Legal};
 ghost use Rattle.dm_check.specs.Judged.{IsYes, IfYes, IfNo, HasJudged, book_of, refused_next, added, IsFirstRefused};
@@ -24,6 +24,7 @@ pub enum Checked {
 fn add(book: &mut Book, step: Step) -> Result<Option<Why>, NoMemory>
     ensures refused { IfOk result (λ refused. refused ≡ refused_next book.old.layout book.old.steps step) }
     ensures steps { IfOk result (λ refused. book.new.steps ≡ added refused book.old.steps step) }
+    ensures same { OnErr result (book.new.steps ≡ book.old.steps) }
     ensures schema { book.new.layout ≡ book.old.layout }
 {
     match book.enabled(&step) {
@@ -65,9 +66,11 @@ impl Judge {
         })
     }
 
-    /// Judges the next step. A step costs the same however many came before it, but for those of which `Book` says otherwise.
+    /// Judges the next step, or leaves it unjudged for want of memory. A step costs the same however many came before it, but for those of
+    /// which `Book` says otherwise.
     pub fn add(&mut self, step: Step) -> Result<(), NoMemory>
         ensures step { OnOk result ((steps : List Step) → HasJudged steps self.old → HasJudged (steps ++ step ∷ []) self.new) }
+        ensures unjudged { OnErr result ((steps : List Step) → HasJudged steps self.old → HasJudged steps self.new) }
         ensures schema { self.new.book.layout ≡ self.old.book.layout }
     {
         if self.refused.is_none() {

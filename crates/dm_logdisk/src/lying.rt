@@ -17,7 +17,14 @@ pub struct LyingDisk {
 }
 
 impl LyingDisk {
-    pub fn new(bytes: Vec<u8>, place: u64, byte: u8) -> LyingDisk {
+    ghost use Rattle.std.specs.Prelude.{◌≡◌};
+    ghost use Rattle.dm_logdisk.specs.Disk.{held, lie};
+
+    /// A disk that holds these bytes, and reads as this byte at this place.
+    pub fn new(bytes: Vec<u8>, place: u64, byte: u8) -> LyingDisk
+        ensures held { held result ≡ bytes.items }
+        ensures lie { lie result ≡ (place, byte) }
+    {
         LyingDisk {
             bytes,
             place,
