@@ -143,6 +143,8 @@ judged_expects expected file f place read due is =
 pub kept_expects : {A : Type 0} (written : List (List ℕ)) (pending : Option (List ℕ)) (frame expected file : List ℕ) (result : Result A AgainstFault) → pending ≡ Some frame
     → expected ≡ framed written ++ 1 ∷ frame → IfErr result (λ e. Says (Err e) (judged expected found.Kept file) × (e ≡ fault.Log → ⊥)) → IfErr result (TellsExpected written pending)
 kept_expects written pending frame expected file (Ok x) is long h = tt
-kept_expects written pending frame expected file (Err e) is long h = λ place read due same. (found.Kept,
-    judged_expects expected file found.Kept place read due (subst (λ (x : AgainstFault). Says (Err x) (judged expected found.Kept file)) same h.0)
-    ∙ ap (λ (l : List ℕ). slice_get l place) (long ∙ sym (framed_one written frame)) ∙ ap (λ (p : Option (List ℕ)). slice_get (framed (stood found.Kept written p)) place) (sym is))
+kept_expects written pending frame expected file (Err e) is long h = λ place read due same. (
+  found.Kept,
+  judged_expects expected file found.Kept place read due (subst (λ (x : AgainstFault). Says (Err x) (judged expected found.Kept file)) same h.0)
+      ∙ ap (λ (l : List ℕ). slice_get l place) (long ∙ sym (framed_one written frame)) ∙ ap (λ (p : Option (List ℕ)). slice_get (framed (stood found.Kept written p)) place) (sym is),
+)
