@@ -1,0 +1,13 @@
+pub mod Staying
+pub mod Turned
+pub mod Steps
+pub mod Appends
+pub mod Written
+pub mod Loaded
+pub mod Lasting
+pub mod LastSteps
+pub mod Sessions
+pub mod Passing
+pub mod Letting
+pub mod Crashing
+pub mod Lively

@@ -1,0 +1,10 @@
+pub mod Stations
+pub mod Logs
+pub mod Causes
+pub mod Keeping
+pub mod Lasting
+pub mod Writing
+pub mod Turning
+pub mod Running
+pub mod Appending
+pub mod Loading
