@@ -207,13 +207,13 @@ module _ (table : TableId) (opened : List ℕ) (site : ℕ) (txn : TxnId) (p : P
 -- ---- a load
 
 -- what others do leaves the site's frames, and that of its step in doubt
-frames_lasting : (layout : Layout) (site : ℕ) (old new : List Step) → Legal layout new → AddsOthers (Site site) old new
+pub frames_lasting : (layout : Layout) (site : ℕ) (old new : List Step) → Legal layout new → AddsOthers (Site site) old new
     → frames_of site (reverse new) ≡ frames_of site (reverse old)
 frames_lasting layout site old new l a =
     unchanged layout (Site site) (frames_of site) (λ past x k b. ap (λ (rs : List Record). map frame_of rs) (records_other layout site past k.0 x k.1 b))
     old new a.0 a.1 l
 
-doubted_lasting : (layout : Layout) (site : ℕ) (old new : List Step) → Legal layout new → AddsOthers (Site site) old new
+pub doubted_lasting : (layout : Layout) (site : ℕ) (old new : List Step) → Legal layout new → AddsOthers (Site site) old new
     → doubted site (reverse new) ≡ doubted site (reverse old)
 doubted_lasting layout site old new l a =
     unchanged layout (Site site) (doubted site) (λ past x k b. same_doubted site past x (log_other layout [] site past x k b)) old new a.0 a.1 l

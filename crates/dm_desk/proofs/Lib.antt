@@ -1,2 +1,4 @@
 pub mod Endings
 pub mod Desks
+pub mod Starting
+pub mod Due

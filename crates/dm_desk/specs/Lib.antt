@@ -1,1 +1,3 @@
 pub mod Causing
+pub mod Restarting
+pub mod Telling

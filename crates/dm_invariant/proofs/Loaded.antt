@@ -312,8 +312,18 @@ module _ (layout : Layout) (opened : List ℕ) (site : ℕ) (past : List Step) (
         };
       }
 
+  -- what stands in a log that agrees
+  pub stands_loaded : (found : Found) → result ≡ Ok found
+      → IfSome told (λ s. IsAt (stood found (frames_of site past) (doubted site past)) gate s × IsDurable s)
+  stands_loaded found e =
+      stands_at (frames_of site past) (doubted site past) found gate parts.told told
+      (of_ok (λ x. Both (Stood (frames_of site past) (doubted site past) x gate) parts.told told) result found e a.stands)
+
+-- ---- a start
+
+module _ (layout : Layout) (opened : List ℕ) (site : ℕ) (past : List Step) (parts : Parts) (k : Keeps layout opened site past parts) where
   -- what a Restart finds is what the site's records are after it
-  frames_found : (found : Found) (vector : List ℕ) → Allowed layout past (Restart site vector found)
+  pub frames_found : (found : Found) (vector : List ℕ) → Allowed layout past (Restart site vector found)
       → stood found (frames_of site past) (doubted site past) ≡ frames_of site (Restart site vector found ∷ past)
   frames_found Clean vector f = refl
   frames_found Lost vector f = refl
@@ -336,17 +346,17 @@ module _ (layout : Layout) (opened : List ℕ) (site : ℕ) (past : List Step) (
       (reverse-reverse past) (stores_restart layout (reverse past) site vector found) (k.legal, f)
 
   -- the site starts again, with a store that has what a plan installs
-  pub restarted : (found : Found) (vector : List ℕ) (store : Contents) → result ≡ Ok found → Allowed layout past (Restart site vector found)
+  pub restarted : (found : Found) (vector : List ℕ) (store : Contents)
+      → IfSome parts.told (λ s. IsAt (stood found (frames_of site past) (doubted site past)) parts.gate s × IsDurable s)
+      → Allowed layout past (Restart site vector found)
       → (found ≡ Clean → (txn : TxnId) × (min : List ℕ) × (choice : Choice)
       × (routed txn past ≡ Some (record { txn = txn; want = want.Restart; min = min; site = site; choice = choice })))
       → store.layout ≡ layout → store.installed ≡ completed site (logged site found past) (committed_inside (reverse past) vector)
-      → Keeps layout opened site (Restart site vector found ∷ past) (record loaded_parts { store = store; locks = no_locks })
-  restarted found vector store e f c l i =
+      → Keeps layout opened site (Restart site vector found ∷ past) (record parts { store = store; locks = no_locks })
+  restarted found vector store at_end f c l i =
       let step = Restart site vector found in
-      let stands : IfSome told (λ s. IsAt (frames_of site (step ∷ past)) gate s × IsDurable s) =
-      subst (λ (fs : List (List ℕ)). IfSome told (λ s. IsAt fs gate s × IsDurable s)) (frames_found found vector f)
-      (stands_at (frames_of site past) (doubted site past) found gate parts.told told
-      (of_ok (λ x. Both (Stood (frames_of site past) (doubted site past) x gate) parts.told told) result found e a.stands)) in
+      let stands : IfSome parts.told (λ s. IsAt (frames_of site (step ∷ past)) parts.gate s × IsDurable s) =
+      subst (λ (fs : List (List ℕ)). IfSome parts.told (λ s. IsAt fs parts.gate s × IsDurable s)) (frames_found found vector f) at_end in
       let up : is_down site (step ∷ past) ≡ false =
       ap (λ (b : Bool). unwrap_or (option_or (cond b (Some false) None) (latest (down_after site) past)) false) (eq-eqb site site refl) in
       record {
@@ -357,22 +367,22 @@ module _ (layout : Layout) (opened : List ℕ) (site : ℕ) (past : List Step) (
         holders = sym (ap (map (claimed past)) (running_restarts site past vector found));
         waiters = tt;
         logged = record {
-          settled = λ _ on. if_some (λ s. IsAt (frames_of site (step ∷ past)) gate s × IsDurable s)
-              (λ s. IsAt (frames_of site (step ∷ past)) gate s × IsFirm (frames_of site (step ∷ past)) s)
-              (is_firm (frames_of site (step ∷ past)) gate) told stands;
-          held = λ _. if_some (λ s. IsAt (frames_of site (step ∷ past)) gate s × IsDurable s) (EachImage (Holds (frames_of site (step ∷ past))))
-              (is_held (frames_of site (step ∷ past)) gate) told stands;
+          settled = λ _ on. if_some (λ s. IsAt (frames_of site (step ∷ past)) parts.gate s × IsDurable s)
+              (λ s. IsAt (frames_of site (step ∷ past)) parts.gate s × IsFirm (frames_of site (step ∷ past)) s)
+              (is_firm (frames_of site (step ∷ past)) parts.gate) parts.told stands;
+          held = λ _. if_some (λ s. IsAt (frames_of site (step ∷ past)) parts.gate s × IsDurable s) (EachImage (Holds (frames_of site (step ∷ past))))
+              (is_held (frames_of site (step ∷ past)) parts.gate) parts.told stands;
           doubtful = λ down. absurd (false≢true (sym up ∙ down));
         };
         caused = record {
-          few = caused_now.few;
-          each = (cause found c, caused_now.each);
+          few = k.caused.few;
+          each = (cause found c, k.caused.each);
         };
       }
     where
       cause : (x : Found) → (x ≡ Clean → (txn : TxnId) × (min : List ℕ) × (choice : Choice)
           × (routed txn past ≡ Some (record { txn = txn; want = want.Restart; min = min; site = site; choice = choice })))
-          → HasCause site told (Restart site vector x) past
+          → HasCause site parts.told (Restart site vector x) past
       cause Clean why = λ _. why refl
       cause Kept why = tt
       cause Lost why = tt
