@@ -1,0 +1,12 @@
+pub mod Catching
+pub mod Arriving
+pub mod Coming
+pub mod Bodies
+pub mod Opening
+pub mod Finishing
+pub mod Outcomes
+pub mod Awaiting
+pub mod Writing
+pub mod Releases
+pub mod Resuming
+pub mod Granted

@@ -1,0 +1,7 @@
+pub mod Answers
+pub mod Catching
+pub mod Begins
+pub mod Ends
+pub mod Loading
+pub mod Handing
+pub mod Restarts
