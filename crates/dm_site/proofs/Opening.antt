@@ -1,4 +1,4 @@
--- A site that has nothing yet, and one whose lock table another waits at, or nobody of a session any more.
+-- A site that has nothing yet, one whose lock table another waits at, or nobody of a session any more, and one that is taken apart.
 use Rattle.std.proofs.Common.{ℕ, ◌≡◌, ◌≤◌, nat_le, true, List, [], ◌∷◌, Option, Some, None, refl, sym, ap, ◌∙◌, subst, arith, inl}
 use Rattle.std.proofs.lemmas.Bool.{and_parts, false≢true, leb-true}
 use Rattle.std.specs.List.{AllByRecursion as Each}
@@ -19,6 +19,7 @@ use Rattle.dm_invariant.proofs.Appends.{held_settled}
 use Rattle.dm_invariant.proofs.Steps.{keeps_line, others_sent}
 use Rattle.dm_invariant.specs.Keeping.{IsSite, Keeps, Parts}
 use Rattle.dm_invariant.specs.Stations.{View, layout_of, no_terms}
+use Rattle.dm_site.specs.Leaving.{Leaves}
 use Rattle.dm_store.specs.declared.past.Past.{Past}
 use Rattle.dm_stores.proofs.Steps.{stores_empty}
 use Rattle.dm_stores.specs.Stores.{Stores}
@@ -89,3 +90,14 @@ module _ {table : TableId} {opened : List ℕ} {site : ℕ} {pass : View} {parts
       subst (λ (locks : Locks). IsSite table opened site pass (record parts { locks = locks })) (sym e)
       (other_line (withdrawn parts.locks txn) refl
       (each_filter (IsSent site (reverse pass.seen)) (λ claim. not (is_of txn claim)) parts.locks.waiters s.keeps.waiters))
+
+-- ---- taken apart
+
+pub leaves : (table : TableId) (opened : List ℕ) (site : ℕ) (pass : View) (parts : Parts) → IsSite table opened site pass parts
+    → Leaves table opened site pass parts.told parts.faults
+leaves table opened site pass parts s = record {
+  table_is = s.table_is;
+  actors = s.actors;
+  held = s.keeps.logged.held;
+  caused = s.keeps.caused;
+}

@@ -281,6 +281,7 @@ module _ {D : Type 0} {table : TableId} {opened : List ℕ} (here old : Station 
           came_rested (Site old.number) (Session on.session) own0 old.pass own2 pass2 (Restart old.number vector found) c refl,
           site_did (Site old.number) (Session on.session) own0 old.pass own2 pass2 (Restart old.number vector found) c
               (ap (λ (b : Bool). b || false) (eq-eqb old.number old.number refl)),
+          (c.turn, c.of_session.0, ap (λ (v : View). v.seen) c.own),
         )
         as_told (answer.Failed why) c =
             came_did (Site old.number) (Session on.session) own0 old.pass own2 pass2 (Fail old.number on why) c (eq-eqb on.session on.session refl)

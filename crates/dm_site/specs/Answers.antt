@@ -1,5 +1,6 @@
 -- What the answers of a site tell.
 use Rattle.std.specs.Prelude.{◌≡◌, ◌⊎◌, ℕ, ℤ, List, [], ◌∷◌, ◌++◌, Some, None, reverse, IsTrue, IsFalse}
+use mathlib.Core.List.{IsPrefix}
 use Rattle.dm_body.specs.Answer.{answer_of}
 use Rattle.dm_body.specs.declared.overlay.OpResult.TheVariants as done
 use Rattle.dm_event.specs.Entries.{commit_vector}
@@ -173,11 +174,15 @@ GrantedAs site was pass on part old new answer = (mid : View) × Went was mid ×
 
 -- ---- restarts
 
+-- the step came after all that the one pass had seen, and the other has seen it
+abbrev pub Saw : View → View → Step → Type 0
+Saw old new step = (turn : List Step) × IsPrefix old.seen turn × (new.seen ≡ turn ++ step ∷ [])
+
 -- the site is down in what its pass has seen, or the attempt is routed for its Restart
 abbrev pub MayRestart : ℕ → View → TxnId → View → Type 0
 MayRestart site pass on session = IsDownIn pass site ⊎ ((min : List ℕ) × RoutedFor on want.Restart min site session)
 
 abbrev pub RestartedAs : ℕ → View → View → TxnId → View → View → RestartAnswer → Type 0
 RestartedAs site was pass on old new (restarted.Restarted vector found) = Rested (Session on.session) old new
-    × SiteDid site was pass (Restart site vector found)
+    × SiteDid site was pass (Restart site vector found) × Saw old new (Restart site vector found)
 RestartedAs site was pass on old new (restarted.Failed why) = Did (Session on.session) old new (Fail site on why)

@@ -5,3 +5,4 @@ pub mod Ends
 pub mod Loading
 pub mod Handing
 pub mod Restarts
+pub mod Leaving

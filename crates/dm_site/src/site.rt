@@ -8,6 +8,7 @@ ghost use Rattle.dm_locks.specs.Locks.{no_locks, withdrawn};
 ghost use Rattle.dm_locks.specs.Sound.{Sound};
 ghost use Rattle.dm_redo.specs.Holding.{IsAt, IsFirm};
 ghost use Rattle.dm_invariant.specs.Stations.{layout_of};
+ghost use Rattle.dm_site.specs.Leaving.{Leaves};
 
 use dm_chronicle::Named;
 use dm_core::CorePass;
@@ -84,6 +85,7 @@ impl<D: LogDisk, N: Named> Site<D, N> {
         ensures pass { result.0 ≡ self.pass }
         ensures disk { result.1.disk ≡ self.disk }
         ensures live { result.1.live ≡ self.live }
+        ensures leaves { Leaves N.table N.faults self.number self.pass (D.story self.disk) (D.faults self.disk) }
     {
         let Site { desk, pass, .. } = self;
         (pass, desk.log)
