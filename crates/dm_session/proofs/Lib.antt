@@ -1,0 +1,4 @@
+pub mod Carried
+pub mod Following
+pub mod Rooms
+pub mod Sessions
