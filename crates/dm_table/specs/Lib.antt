@@ -1,0 +1,4 @@
+pub mod Stated
+pub mod Places
+pub mod Starts
+pub mod Verdicts
