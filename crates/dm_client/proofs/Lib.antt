@@ -1,0 +1,4 @@
+pub mod Answering
+pub mod Placed
+pub mod Carrying
+pub mod Handing
